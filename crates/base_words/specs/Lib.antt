@@ -1,0 +1,10 @@
+pub mod Counts
+pub mod Devices
+pub mod Fields
+pub mod Instruction
+pub mod Membership
+pub mod Memory
+pub mod OpcodeMap
+pub mod OwnStep
+pub mod Place
+pub mod PrivateRun

@@ -1,0 +1,28 @@
+-- A run of a guest's private machine over a list of its own events.
+use Rattle.std.specs.Prelude.{ℕ, List, [], ◌∷◌, replicate}
+use Rattle.base_words.specs.declared.events.OwnEvent.{OwnEvent}
+use Rattle.base_words.specs.declared.events.OwnEvent.TheVariants.{Step}
+use Rattle.base_words.specs.OwnStep.{PrivateMachine, started, own_step}
+
+-- what a guest starts from: its memory of so many pages, and where its first instruction stands
+pub record Image : Type 0 where
+  pub entry : ℕ
+  pub pages : ℕ
+  pub memory : List ℕ
+
+-- a guest of so many virtual processors at its start
+abbrev pub booted : Image → ℕ → PrivateMachine
+booted image vcpus = record {
+  pages = image.pages;
+  memory = image.memory;
+  vcpus = replicate vcpus (started image.entry);
+  console = [];
+}
+
+abbrev pub own_event : PrivateMachine → OwnEvent → PrivateMachine
+own_event m (Step v) = own_step m v.0
+
+-- the machine after a list of own events
+abbrev pub private_run : PrivateMachine → List OwnEvent → PrivateMachine
+private_run m [] = m
+private_run m (e ∷ events) = private_run (own_event m e) events

@@ -1,0 +1,34 @@
+//! The small words that all crates of the monitor share: identifiers, sets, lists, pages and frames, and the registers,
+//! instructions, exceptions and events of a guest. `specs/` has the private machine, by which a guest's console is defined.
+#![tactic(auto)]
+
+mod effect;
+mod events;
+mod exception;
+mod frame;
+mod ids;
+mod instr;
+mod name;
+mod page;
+mod place;
+mod regs;
+mod sequence;
+mod sets;
+mod words;
+
+pub use effect::{Effect, Request};
+pub use events::{End, Event, OwnEvent};
+pub use exception::{Exception, Use};
+pub use frame::{Frame, FrameList, Shape, SharedFrame};
+pub use ids::{CellId, FrameNo, GuestId, NodeId, Numbered, Ppn, ProcId, VcpuId};
+pub use instr::{AluOp, Instr, Primary, Register, StoreKind};
+pub use name::Name;
+pub use page::{Blocks, PAGE_SIZE, Page, PageList};
+pub use place::{DeviceRegister, Place};
+pub use regs::Regs;
+pub use sequence::{Bytes, CellList, GuestList, LendList, NodeList, Sequence};
+pub use sets::{CellSet, IdSet, ProcSet};
+pub use words::{read_word, write_word};
+
+#[cfg(test)]
+mod tests;

@@ -1,0 +1,9 @@
+pub mod NoFault
+pub mod Overlaps
+pub mod Lists
+pub mod ByteOf
+pub mod Copies
+pub mod Pages
+pub mod Accepted
+pub mod Chain
+pub mod Raw

@@ -1,0 +1,7 @@
+pub mod Fields
+pub mod Segments
+pub mod FirstFault
+pub mod Checks
+pub mod Physical
+pub mod Filling
+pub mod Loading

@@ -1,0 +1,9 @@
+pub mod WordLemmas
+pub mod Bags
+pub mod Turns
+pub mod Moves
+pub mod Parts
+pub mod Opened
+pub mod TailLemmas
+pub mod Gone
+pub mod Begins

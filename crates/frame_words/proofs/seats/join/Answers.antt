@@ -1,0 +1,14 @@
+use Rattle.std.proofs.Common.{arith}
+use Rattle.frame_words.proofs.Opened.{fits_table, nothing_within}
+use Rattle.frame_words.proofs.Parts.{joins}
+use Rattle.frame_words.proofs.seats.join.Goals as goal
+
+pub join_seat-requires : goal.join_seat-requires
+join_seat-requires c =
+    let wide = c.table.invariant.wide in (
+      fits_table c.table.inside c.holder.inside _ _ c.table.view_is c.holder.view_is c.requires.made.0,
+      fits_table c.table.inside c.other.inside _ _ c.table.view_is c.other.view_is c.requires.made.1,
+      c.other.invariant,
+      omega arith,
+      joins _ _ _ _ _ (nothing_within c.other.inside _ c.other.view_is c.requires.empty),
+    )

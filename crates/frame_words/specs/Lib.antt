@@ -1,0 +1,13 @@
+pub mod FrameWords
+pub mod Views
+pub mod FrameRights
+pub mod Steps
+pub mod Splits
+pub mod Holders
+pub mod TableParts
+pub mod Taking
+pub mod Sharing
+pub mod Borrowing
+pub mod StepKinds
+pub mod Tails
+pub mod Refusals

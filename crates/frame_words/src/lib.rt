@@ -1,0 +1,27 @@
+//! One atomic word a frame, with how many holders it has and its generation, and one a cell, with its loans.
+//! No call takes a lock or waits, and each makes a fixed number of steps.
+#![tactic(auto)]
+
+mod answers;
+mod frames;
+mod holder;
+mod loans;
+mod packing;
+#[cfg(test)]
+mod races;
+mod rights;
+mod seats;
+mod table;
+mod terms;
+#[cfg(test)]
+mod tests;
+mod view;
+
+pub use answers::{Borrow, Share, Took};
+pub use frames::{give_back, share, take};
+pub use holder::Holder;
+pub use loans::{borrow, repay};
+pub use seats::{join, split};
+pub use table::{FrameTable, close};
+pub use terms::Terms;
+pub use view::{Hold, Look, StepKind, View};

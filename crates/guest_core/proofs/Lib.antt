@@ -1,0 +1,4 @@
+pub mod GuestLemmas
+pub mod MachineLemmas
+pub mod Replicas
+pub mod StepLemmas

@@ -1,0 +1,4 @@
+pub mod Attempt
+pub mod GuestCalls
+pub mod GuestView
+pub mod MachineView

@@ -1,0 +1,4 @@
+pub mod GuestState
+pub mod MachineEvent
+pub mod OwnHistory
+pub mod Run

@@ -1,0 +1,20 @@
+use Rattle.monitor_run.proofs.Statuses.{words_status, only_words_status, told_status, absent_status, only_read_status, only_write_status}
+use Rattle.monitor_run.proofs.law.exactly.Goals as goal
+
+pub returns-clause-words : goal.returns-clause-words
+returns-clause-words c = words_status
+
+pub returns-clause-only_words : goal.returns-clause-only_words
+returns-clause-only_words c = only_words_status
+
+pub returns-clause-told : goal.returns-clause-told
+returns-clause-told c = told_status
+
+pub returns-clause-absent : goal.returns-clause-absent
+returns-clause-absent c = absent_status
+
+pub returns-clause-only_read : goal.returns-clause-only_read
+returns-clause-only_read c = only_read_status
+
+pub returns-clause-only_write : goal.returns-clause-only_write
+returns-clause-only_write c = only_write_status

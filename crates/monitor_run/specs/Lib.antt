@@ -1,0 +1,9 @@
+pub mod Accepted
+pub mod Chain
+pub mod Exactly
+pub mod Headline
+pub mod PlanDue
+pub mod Reads
+pub mod Report
+pub mod Slices
+pub mod Words

@@ -1,0 +1,5 @@
+pub mod ScanLemmas
+pub mod SeekLemmas
+pub mod FindLemmas
+pub mod ReleaseLemmas
+pub mod OrderLemmas

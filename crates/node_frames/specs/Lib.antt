@@ -1,0 +1,5 @@
+pub mod Places
+pub mod Entries
+pub mod Searches
+pub mod Scans
+pub mod BootOrder

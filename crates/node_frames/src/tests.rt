@@ -1,0 +1,137 @@
+//! Searches and orders worked out by hand.
+ghost use Rattle.std.specs.Prelude.{◌≡◌, ◌<◌, IfOk, All};
+ghost use Rattle.frame_words.specs.Holders.{IsMade};
+ghost use Rattle.node_frames.specs.Places.{FitsShape, AreNodes};
+
+use crate::{FindFault, Shown, boot_order, find, release};
+use base_words::{CellId, CellList, NodeId, NodeList, Shape};
+use frame_words::{FrameTable, Holder};
+use std::alloc::{AllocError, Global};
+use std::test::Fail;
+
+const HOME: CellId = CellId(0);
+
+// Two nodes of two frames, each a cell of its own.
+fn two_cells(alloc: Global) -> Result<Shape, AllocError>
+    ensures sizes { IfOk result (λ shape. (shape.nodes ≡ 2) × (shape.frames ≡ 2)) }
+    ensures cells { IfOk result (λ shape. All (λ cell. cell.0 < 2) shape.cells) }
+{
+    let mut cells = Vec::new(alloc);
+    cells.push(CellId(0))?;
+    cells.push(CellId(1))?;
+    Ok(Shape {
+        nodes: 2,
+        frames: 2,
+        cells: CellList::from_vec(cells),
+    })
+}
+
+fn both_nodes(alloc: Global) -> Result<NodeList, AllocError>
+    ensures { IfOk result (λ order. All (λ node. node.0 < 2) order) }
+{
+    let mut nodes = Vec::new(alloc);
+    nodes.push(NodeId(0))?;
+    nodes.push(NodeId(1))?;
+    Ok(NodeList::from_vec(nodes))
+}
+
+#[test]
+fn finds_by_node_and_number_and_repays(rt: HostRuntime) -> Result<(), Fail> {
+    let shape = two_cells(rt.alloc())?;
+    let order = both_nodes(rt.alloc())?;
+    let (table, mut holder) = FrameTable::new(rt.alloc(), 4, &[1, 1], 0)?;
+    let Ok(first) = find(rt.alloc(), &table, &mut holder, &shape, &order, HOME) else {
+        panic!(rt; "frame 0 is free")
+    };
+    assert_eq!(rt; (first.number.0, first.generation), (0, 1));
+    let Ok(second) = find(rt.alloc(), &table, &mut holder, &shape, &order, HOME) else {
+        panic!(rt; "frame 1 is free")
+    };
+    assert_eq!(rt; (second.number.0, second.generation), (1, 1));
+    let Ok(third) = find(rt.alloc(), &table, &mut holder, &shape, &order, HOME) else {
+        panic!(rt; "frame 2 is free and cell 1 lends one")
+    };
+    assert_eq!(rt; (third.number.0, third.generation), (2, 1));
+    let Err(FindFault::NoFrame(list)) = find(rt.alloc(), &table, &mut holder, &shape, &order, HOME)
+    else {
+        panic!(rt; "cell 1 lends no more")
+    };
+    assert!(rt; list.as_slice() == [Shown::AllHeld, Shown::AtLimit(1)].as_slice());
+    release(&table, &mut holder, &shape, HOME, third.number);
+    let Ok(again) = find(rt.alloc(), &table, &mut holder, &shape, &order, HOME) else {
+        panic!(rt; "the loan is repaid")
+    };
+    assert_eq!(rt; (again.number.0, again.generation), (2, 2));
+    Ok(())
+}
+
+fn second_node(alloc: Global) -> Result<NodeList, AllocError>
+    ensures { IfOk result (λ order. All (λ node. node.0 < 2) order) }
+{
+    let mut nodes = Vec::new(alloc);
+    nodes.push(NodeId(1))?;
+    Ok(NodeList::from_vec(nodes))
+}
+
+// Whether a search over this order says that each node's frames are held.
+fn all_held(
+    alloc: Global,
+    table: &FrameTable,
+    holder: &mut Holder,
+    shape: &Shape,
+    order: &NodeList,
+) -> bool
+    requires made { IsMade table.now holder.old }
+    requires fits { FitsShape table.now shape.now }
+    requires nodes { AreNodes shape.now order.now }
+    ensures { holder.new.table ≡ holder.old.table }
+{
+    match find(alloc, table, holder, shape, order, HOME) {
+        Err(FindFault::NoFrame(list)) => list.as_slice() == [Shown::AllHeld].as_slice(),
+        _ => false,
+    }
+}
+
+#[test]
+fn a_node_whose_frames_are_held_keeps_no_loan(rt: HostRuntime) -> Result<(), Fail> {
+    let shape = two_cells(rt.alloc())?;
+    let order = second_node(rt.alloc())?;
+    let (table, mut holder) = FrameTable::new(rt.alloc(), 4, &[1, 1], 7)?;
+    assert!(rt; find(rt.alloc(), &table, &mut holder, &shape, &order, CellId(1)).is_ok());
+    assert!(rt; find(rt.alloc(), &table, &mut holder, &shape, &order, CellId(1)).is_ok());
+    assert!(rt; all_held(rt.alloc(), &table, &mut holder, &shape, &order));
+    assert!(rt; all_held(rt.alloc(), &table, &mut holder, &shape, &order));
+    Ok(())
+}
+
+// Four nodes, of cells 0, 1, 0 and 1.
+fn four_nodes(alloc: Global) -> Result<Shape, AllocError>
+    ensures { IfOk result (λ shape. shape.nodes ≡ 4) }
+{
+    let mut cells = Vec::new(alloc);
+    cells.push(CellId(0))?;
+    cells.push(CellId(1))?;
+    cells.push(CellId(0))?;
+    cells.push(CellId(1))?;
+    Ok(Shape {
+        nodes: 4,
+        frames: 1,
+        cells: CellList::from_vec(cells),
+    })
+}
+
+fn is_order(alloc: Global, shape: &Shape, node: NodeId, want: &[NodeId]) -> Result<bool, AllocError>
+    requires { node.0 < shape.now.nodes }
+{
+    Ok(boot_order(alloc, shape, node)?.as_slice() == want)
+}
+
+#[test]
+fn boot_order_goes_from_near_to_far(rt: HostRuntime) -> Result<(), Fail> {
+    let shape = four_nodes(rt.alloc())?;
+    let [a, b, c, d] = [NodeId(0), NodeId(1), NodeId(2), NodeId(3)];
+    assert!(rt; is_order(rt.alloc(), &shape, a, &[a, c, b, d])?);
+    assert!(rt; is_order(rt.alloc(), &shape, c, &[c, a, b, d])?);
+    assert!(rt; is_order(rt.alloc(), &shape, d, &[d, b, a, c])?);
+    Ok(())
+}

@@ -1,0 +1,5 @@
+pub mod Collected
+pub mod Held
+pub mod Reading
+pub mod Streams
+pub mod Writing

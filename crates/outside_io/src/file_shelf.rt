@@ -1,0 +1,87 @@
+//! Files of the system.
+ghost use Rattle.std.specs.Prelude.{◌≡◌, [], length, ◌≤◌};
+ghost use Rattle.outside_io.specs.Reading.{Untold, ShelfView};
+ghost use Rattle.outside_io.specs.Streams.{Streams};
+
+use crate::{Shelf, ShelfFault};
+use base_words::{Bytes, Name};
+use std::alloc::Global;
+use std::fs;
+use std::io::Read;
+use std::rt::Files;
+
+/// The files that the system has by their paths. It tells nothing of their content.
+#[derive(Drop)]
+pub struct FileShelf<'a, R: Files> {
+    rt: &'a R,
+    faults: u64,
+    failed: Name,
+}
+
+impl<'a, R: Files> FileShelf<'a, R> {
+    /// The system's files, none of them read yet. Takes no memory.
+    pub fn new(alloc: Global, rt: &'a R) -> Self {
+        FileShelf {
+            rt,
+            faults: 0,
+            failed: Name::from_string(String::new(alloc)),
+        }
+    }
+}
+
+/// The bytes that a stream gives to its end, unless they are more than `most`. Reads at most one byte more.
+fn read_stream<F: Read>(alloc: Global, file: &mut F, most: u64) -> Result<Bytes, ShelfFault>
+    ensures { Streams most result }
+{
+    let mut bytes = Vec::new(alloc);
+    let mut chunk = [0u8; 4096];
+    for _ in 0..u64::MAX {
+        let len = bytes.len() as u64;
+        if len > most {
+            return Err(ShelfFault::Long);
+        }
+        let wanted = (most - len).saturating_add(1).min(4096) as usize;
+        match file.read(&mut chunk[..wanted]) {
+            Ok(0) => return Ok(Bytes::from_vec(bytes)),
+            Ok(count) => bytes.extend_from_slice(&chunk[..count])?,
+            Err(_) => return Err(ShelfFault::Failed),
+        }
+    }
+    Err(ShelfFault::Failed)
+}
+
+/// The bytes of the file at a path, unless they are more than `most`.
+fn read_file<R: Files>(alloc: Global, rt: &R, path: &str, most: u64) -> Result<Bytes, ShelfFault>
+    ensures { Streams most result }
+{
+    match fs::open(rt, path) {
+        Ok(mut file) => read_stream(alloc, &mut file, most),
+        Err(_) => Err(ShelfFault::Failed),
+    }
+}
+
+impl<'a, R: Files> Shelf for FileShelf<'a, R> {
+    ghost view = { λ s. record { told = λ _. Untold; faults = s.faults; failed = s.failed } };
+
+    fn faults(&self) -> u64 {
+        self.faults
+    }
+
+    fn failed(&self) -> &str {
+        self.failed.as_str()
+    }
+
+    fn read(&mut self, alloc: Global, name: &str, most: u64) -> Result<Bytes, ShelfFault> {
+        let copy = Name::copy_of(alloc, name)?;
+        match read_file(alloc, self.rt, name, most) {
+            Ok(bytes) => Ok(bytes),
+            Err(ShelfFault::Failed) => {
+                self.faults = self.faults.saturating_add(1);
+                self.failed = copy;
+                Err(ShelfFault::Failed)
+            }
+            Err(ShelfFault::Long) => Err(ShelfFault::Long),
+            Err(ShelfFault::Memory) => Err(ShelfFault::Memory),
+        }
+    }
+}
