@@ -1,0 +1,7 @@
+use Rattle.toml.specs.View.{table_view}
+use Rattle.machine_desc.specs.Sheet.{guest_at}
+use Rattle.machine_desc.proofs.Each.{IsReadTo}
+use Rattle.machine_desc.proofs.tables.guests_in.Given as goal
+
+abbrev pub invariant-loop-number : goal.invariant-loop-number
+invariant-loop-number l = IsReadTo guest_at (λ t. table_view t.now) l.tables l.guests l.number
