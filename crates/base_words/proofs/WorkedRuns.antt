@@ -21,9 +21,19 @@ prints_and_halts =
     0x3C ∷ 0x01 ∷ 0xCF ∷ 0xFF ∷ 0x34 ∷ 0x21 ∷ 0xF0 ∷ 0x00 ∷ 0x24 ∷ 0x02 ∷ 0x00 ∷ 0x41
     ∷ 0xAC ∷ 0x22 ∷ 0x00 ∷ 0x00 ∷ 0xAC ∷ 0x22 ∷ 0x00 ∷ 0x04 ∷ []
 
--- ADD 3, 1, 2
-abbrev adds : List ℕ
-adds = 0x00 ∷ 0x22 ∷ 0x18 ∷ 0x20 ∷ []
+-- TLBWI, which isn't built yet
+abbrev writes_the_tlb : List ℕ
+writes_the_tlb = 0x42 ∷ 0x00 ∷ 0x00 ∷ 0x02 ∷ []
+
+-- LUI 1, CFFF; ORI 1, 1, F000; ADDIU 2, 0, 42; SW 2, 0(1); J back to the store; ADDIU 0, 0, 0
+abbrev prints_again : List ℕ
+prints_again =
+    0x3C ∷ 0x01 ∷ 0xCF ∷ 0xFF ∷ 0x34 ∷ 0x21 ∷ 0xF0 ∷ 0x00 ∷ 0x24 ∷ 0x02 ∷ 0x00 ∷ 0x42
+    ∷ 0xAC ∷ 0x22 ∷ 0x00 ∷ 0x00 ∷ 0x08 ∷ 0x00 ∷ 0x00 ∷ 0x03 ∷ 0x24 ∷ 0x00 ∷ 0x00 ∷ 0x00 ∷ []
+
+-- BNEL 0, 0, which isn't taken
+abbrev likely_not_taken : List ℕ
+likely_not_taken = 0x54 ∷ 0x00 ∷ 0x00 ∷ 0x02 ∷ []
 
 five_steps_print : (rest : List ℕ) → (private_run (raw_guest prints_and_halts rest) (steps 5)).console ≡ 0x41 ∷ []
 five_steps_print rest = refl
@@ -41,8 +51,15 @@ no_steps_print_nothing : (rest : List ℕ) → (private_run (raw_guest prints_an
 no_steps_print_nothing rest = refl
 
 -- the word is fetched, and isn't built
-add_is_fetched : (rest : List ℕ) → fetched (raw_guest adds rest) 0 ≡ Ok 0x0022_1820
-add_is_fetched rest = refl
+tlbwi_is_fetched : (rest : List ℕ) → fetched (raw_guest writes_the_tlb rest) 0 ≡ Ok 0x4200_0002
+tlbwi_is_fetched rest = refl
 
-add_is_reserved : (rest : List ℕ) → attempted (raw_guest adds rest) 0 ≡ Err ReservedInstruction
-add_is_reserved rest = refl
+tlbwi_is_reserved : (rest : List ℕ) → attempted (raw_guest writes_the_tlb rest) 0 ≡ Err ReservedInstruction
+tlbwi_is_reserved rest = refl
+
+nine_steps_print_twice : (rest : List ℕ) → (private_run (raw_guest prints_again rest) (steps 9)).console ≡ 0x42 ∷ 0x42 ∷ []
+nine_steps_print_twice rest = refl
+
+-- the delay slot is passed over
+likely_branch_passes_its_slot : (rest : List ℕ) → (vcpu (private_run (raw_guest likely_not_taken rest) (steps 1)) 0).registers.pc ≡ 0xC000_0008
+likely_branch_passes_its_slot rest = refl

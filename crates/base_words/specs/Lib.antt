@@ -1,9 +1,11 @@
+pub mod Arithmetic
 pub mod Counts
 pub mod Devices
 pub mod Fields
 pub mod Instruction
 pub mod Membership
 pub mod Memory
+pub mod Merging
 pub mod OpcodeMap
 pub mod OwnStep
 pub mod Place

@@ -17,6 +17,11 @@ pub enum Exception {
     AddressError(Use, u32),
     /// No memory and no register is there.
     BusError(Use),
+    SystemCall,
+    Breakpoint,
     ReservedInstruction,
+    /// The coprocessor of this number isn't there, or isn't allowed.
+    CoprocessorUnusable(u8),
     Overflow,
+    Trap,
 }

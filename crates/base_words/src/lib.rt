@@ -16,12 +16,15 @@ mod sequence;
 mod sets;
 mod words;
 
-pub use effect::{Effect, Request};
+pub use effect::{Effect, HiLo, Request};
 pub use events::{End, Event, OwnEvent};
 pub use exception::{Exception, Use};
 pub use frame::{Frame, FrameList, Shape, SharedFrame};
 pub use ids::{CellId, FrameNo, GuestId, NodeId, Numbered, Ppn, ProcId, VcpuId};
-pub use instr::{AluOp, Instr, Primary, Register, StoreKind};
+pub use instr::{
+    AluOp, Cond, Cp0Op, Field, Half, Instr, JumpIndex, LoadKind, MulOp, Primary, Register,
+    RegisterImmediate, ShiftAmount, ShiftOp, Special, StoreKind, SystemCode, TrapCode, Untaken,
+};
 pub use name::Name;
 pub use page::{Blocks, PAGE_SIZE, Page, PageList};
 pub use place::{DeviceRegister, Place};

@@ -8,6 +8,7 @@ mod image;
 mod machine;
 mod records;
 mod translation;
+mod vcpus;
 
 pub use answers::{Loaded, Turn};
 pub use guest::Guest;

@@ -1,63 +1,34 @@
 //! A guest's machine: one flat list of bytes, its virtual processors and its console.
-ghost use Rattle.std.specs.Prelude.{◌≡◌, ◌+◌, ◌<◌, ◌≤◌, length, map, replicate, IfOk};
+ghost use Rattle.std.specs.Prelude.{◌≡◌, ◌+◌, ◌*◌, ◌%◌, ◌<◌, length, IfOk, Ok};
 ghost use Rattle.std.specs.Result.{result_unwrap_or};
-ghost use Rattle.base_words.specs.Memory.{with_word};
-ghost use Rattle.base_words.specs.declared.effect.Request.TheVariants.{Store as StoreTo};
+ghost use Rattle.base_words.specs.Merging.{store_unit as store_unit_of};
+ghost use Rattle.base_words.specs.declared.effect.Request.TheVariants as asks;
+ghost use Rattle.base_words.specs.declared.place.Place.TheVariants.{Memory};
 ghost use Rattle.base_words.specs.Devices.{device_register as register_of};
-ghost use Rattle.base_words.specs.OwnStep.{attempted, answered, fetched, halting, stepped, device_stored, vcpu as vcpu_at};
+ghost use Rattle.base_words.specs.OwnStep.{attempted, answered, fetched, halting, linking, stepped, stored, written, word_around, conditional_store, device_stored, vcpu as vcpu_at};
 ghost use Rattle.base_words.specs.PrivateRun.{booted};
 ghost use Rattle.isolation.specs.GuestState.{all_halted as all_halted_of};
 ghost use Rattle.guest_core.specs.Attempt.{Attempts, Prints};
-ghost use Rattle.guest_core.specs.MachineView.{image_of, vcpu_of};
+ghost use Rattle.guest_core.specs.MachineView.{image_of};
 
 use crate::Image;
 use crate::devices::device_register;
-use crate::translation::place;
+use crate::translation::{memory_place, place};
+use crate::vcpus::{Vcpu, alike, all_halted, unlink_others};
 use base_words::{
-    Bytes, DeviceRegister, Effect, Exception, Place, Regs, Request, StoreKind, Use, VcpuId,
-    read_word, write_word,
+    Bytes, DeviceRegister, Effect, Exception, LoadKind, Place, Register, Regs, Request, StoreKind,
+    Use, VcpuId, read_word, write_word,
 };
-use mips_alu::execute;
+use mips_alu::{execute, load_unit, loaded_value, read, store_unit, stored_word, write};
 use mips_isa::decode;
 use std::alloc::{AllocError, Global};
 use std::marker::Model;
-
-/// A virtual processor.
-#[derive(Clone, Copy, Debug, PartialEq, Eq)]
-pub struct Vcpu {
-    pub registers: Regs,
-    pub halted: bool,
-    pub steps: u64,
-}
 
 /// Why a step wasn't made. The machine is as it was.
 #[derive(Clone, Copy, Debug, PartialEq, Eq)]
 pub enum StepFault {
     Raised(Exception),
     Memory,
-}
-
-/// So many virtual processors, all alike.
-fn alike(alloc: Global, vcpu: Vcpu, count: u8) -> Result<Vec<Vcpu>, AllocError>
-    ensures { IfOk result (λ vcpus. map vcpu_of vcpus.items ≡ replicate count (vcpu_of vcpu)) }
-{
-    let mut vcpus = Vec::with_capacity(alloc, count as usize)?;
-    for _ in 0..count {
-        vcpus.push(vcpu)?;
-    }
-    Ok(vcpus)
-}
-
-/// Whether all of these have halted.
-fn all_halted(vcpus: &[Vcpu]) -> bool
-    ensures { result ≡ all_halted_of (map vcpu_of vcpus.now) }
-{
-    for vcpu in vcpus {
-        if !vcpu.halted {
-            return false;
-        }
-    }
-    true
 }
 
 /// A guest's machine.
@@ -100,6 +71,7 @@ impl Machine {
                 pc: entry,
                 slot: None,
             },
+            link: None,
             halted: false,
             steps: 0,
         };
@@ -197,6 +169,34 @@ impl Machine {
         }
     }
 
+    /// A virtual processor links a line, or none.
+    fn link(&mut self, vcpu: VcpuId, line: Option<u32>)
+        requires { vcpu.0 < length self.old.vcpus }
+        ensures linked { self.new ≡ linking self.old vcpu.0 line }
+        ensures vcpus { length self.new.vcpus ≡ length self.old.vcpus }
+    {
+        self.vcpus[vcpu.0 as usize].link = line;
+    }
+
+    /// The word of memory in which an offset lies.
+    fn word_around(&self, offset: u32) -> u32
+        requires { offset < 4096 * self.now.pages }
+        ensures { result ≡ word_around self.now offset }
+    {
+        read_word(&self.memory, (offset - offset % 4) as usize)
+    }
+
+    /// A word of memory becomes another, and the line is no longer linked by others.
+    fn write(&mut self, vcpu: VcpuId, offset: u32, word: u32)
+        requires vcpu { vcpu.0 < length self.old.vcpus }
+        requires within { offset < 4096 * self.old.pages }
+        ensures written { self.new ≡ written self.old vcpu.0 offset word }
+        ensures vcpus { length self.new.vcpus ≡ length self.old.vcpus }
+    {
+        write_word(&mut self.memory, (offset - offset % 4) as usize, word);
+        unlink_others(&mut self.vcpus, vcpu.0 as usize, offset / 32);
+    }
+
     /// A store to the device page.
     fn store_to_device(
         &mut self,
@@ -224,14 +224,48 @@ impl Machine {
         }
     }
 
-    /// A store to memory.
-    fn store_to_memory(&mut self, vcpu: VcpuId, registers: Regs, offset: u32, value: u32)
-        requires vcpu { vcpu.0 < length self.old.vcpus }
-        requires within { offset + 4 ≤ length self.old.memory }
+    /// A load, wherever its address leads.
+    fn load(
+        &mut self,
+        vcpu: VcpuId,
+        mut registers: Regs,
+        kind: LoadKind,
+        address: u32,
+        target: Register,
+    ) -> Result<(), StepFault>
+        requires { vcpu.0 < length self.old.vcpus }
         ensures vcpus { length self.new.vcpus ≡ length self.old.vcpus }
-        ensures stored { self.new ≡ record (stepped self.old vcpu.0 registers) { memory = with_word self.old.memory offset value } }
+        ensures attempts { Attempts (answered self.old vcpu.0 registers (asks.Load kind address target)) self.old self.new result }
     {
-        write_word(&mut self.memory, offset as usize, value);
+        match memory_place(self.pages, load_unit(kind), Use::Load, address) {
+            Ok(offset) => {
+                let old = read(&registers, target);
+                let value = loaded_value(kind, self.word_around(offset), old, offset % 4);
+                write(&mut registers, target, value);
+                self.retire(vcpu, registers);
+                Ok(())
+            }
+            Err(exception) => Err(StepFault::Raised(exception)),
+        }
+    }
+
+    /// A store to memory.
+    fn store_to_memory(
+        &mut self,
+        vcpu: VcpuId,
+        registers: Regs,
+        kind: StoreKind,
+        offset: u32,
+        value: u32,
+    )
+        requires vcpu { vcpu.0 < length self.old.vcpus }
+        requires within { offset < 4096 * self.old.pages }
+        requires aligned { offset % 4 % store_unit_of kind ≡ 0 }
+        ensures vcpus { length self.new.vcpus ≡ length self.old.vcpus }
+        ensures stored { Ok self.new ≡ stored self.old vcpu.0 registers kind value (Ok (Memory offset)) }
+    {
+        let word = stored_word(kind, self.word_around(offset), value, offset % 4);
+        self.write(vcpu, offset, word);
         self.retire(vcpu, registers);
     }
 
@@ -246,35 +280,122 @@ impl Machine {
     ) -> Result<(), StepFault>
         requires { vcpu.0 < length self.old.vcpus }
         ensures vcpus { length self.new.vcpus ≡ length self.old.vcpus }
-        ensures attempts { Attempts (answered self.old vcpu.0 registers (StoreTo kind address value)) self.old self.new result }
+        ensures attempts { Attempts (answered self.old vcpu.0 registers (asks.Store kind address value)) self.old self.new result }
     {
-        let StoreKind::Word = kind;
-        match place(self.pages, 4, Use::Store, address) {
+        match place(self.pages, store_unit(kind), Use::Store, address) {
             Ok(Place::Memory(offset)) => {
-                self.store_to_memory(vcpu, registers, offset, value);
+                self.store_to_memory(vcpu, registers, kind, offset, value);
                 Ok(())
             }
-            Ok(Place::Device(offset)) => self.store_to_device(vcpu, registers, offset, value),
+            Ok(Place::Device(offset)) => match kind {
+                StoreKind::Word => self.store_to_device(vcpu, registers, offset, value),
+                _ => Err(StepFault::Raised(Exception::BusError(Use::Store))),
+            },
+            Err(exception) => Err(StepFault::Raised(exception)),
+        }
+    }
+
+    /// A linked load, wherever its address leads.
+    fn load_linked(
+        &mut self,
+        vcpu: VcpuId,
+        mut registers: Regs,
+        address: u32,
+        target: Register,
+    ) -> Result<(), StepFault>
+        requires { vcpu.0 < length self.old.vcpus }
+        ensures vcpus { length self.new.vcpus ≡ length self.old.vcpus }
+        ensures attempts { Attempts (answered self.old vcpu.0 registers (asks.LoadLinked address target)) self.old self.new result }
+    {
+        match memory_place(self.pages, 4, Use::Load, address) {
+            Ok(offset) => {
+                write(
+                    &mut registers,
+                    target,
+                    read_word(&self.memory, offset as usize),
+                );
+                self.retire(vcpu, registers);
+                self.link(vcpu, Some(offset / 32));
+                Ok(())
+            }
+            Err(exception) => Err(StepFault::Raised(exception)),
+        }
+    }
+
+    /// A conditional store to memory, which is made where its line is linked.
+    fn store_if_linked(
+        &mut self,
+        vcpu: VcpuId,
+        mut registers: Regs,
+        offset: u32,
+        value: u32,
+        target: Register,
+    )
+        requires vcpu { vcpu.0 < length self.old.vcpus }
+        requires within { offset < 4096 * self.old.pages }
+        ensures vcpus { length self.new.vcpus ≡ length self.old.vcpus }
+        ensures stored { Ok self.new ≡ conditional_store self.old vcpu.0 registers target value (Ok (Memory offset)) }
+    {
+        let linked = self.vcpus[vcpu.0 as usize].link == Some(offset / 32);
+        if linked {
+            self.write(vcpu, offset, value);
+        }
+        write(&mut registers, target, u32::from(linked));
+        self.retire(vcpu, registers);
+        self.link(vcpu, None);
+    }
+
+    /// A conditional store, wherever its address leads.
+    fn store_conditional(
+        &mut self,
+        vcpu: VcpuId,
+        registers: Regs,
+        address: u32,
+        value: u32,
+        target: Register,
+    ) -> Result<(), StepFault>
+        requires { vcpu.0 < length self.old.vcpus }
+        ensures vcpus { length self.new.vcpus ≡ length self.old.vcpus }
+        ensures attempts { Attempts (answered self.old vcpu.0 registers (asks.StoreConditional address value target)) self.old self.new result }
+    {
+        match memory_place(self.pages, 4, Use::Store, address) {
+            Ok(offset) => {
+                self.store_if_linked(vcpu, registers, offset, value, target);
+                Ok(())
+            }
             Err(exception) => Err(StepFault::Raised(exception)),
         }
     }
 
     /// What an instruction asked of memory is done, and with it the step.
-    fn answer(&mut self, vcpu: VcpuId, effect: Effect) -> Result<(), StepFault>
+    fn answer(&mut self, vcpu: VcpuId, registers: Regs, request: Request) -> Result<(), StepFault>
         requires { vcpu.0 < length self.old.vcpus }
         ensures vcpus { length self.new.vcpus ≡ length self.old.vcpus }
-        ensures attempts { Attempts (answered self.old vcpu.0 effect.registers effect.request) self.old self.new result }
+        ensures attempts { Attempts (answered self.old vcpu.0 registers request) self.old self.new result }
     {
-        match effect.request {
+        match request {
             Request::Nothing => {
-                self.retire(vcpu, effect.registers);
+                self.retire(vcpu, registers);
                 Ok(())
             }
+            Request::Load {
+                kind,
+                address,
+                target,
+            } => self.load(vcpu, registers, kind, address, target),
             Request::Store {
                 kind,
                 address,
                 value,
-            } => self.store(vcpu, effect.registers, kind, address, value),
+            } => self.store(vcpu, registers, kind, address, value),
+            Request::LoadLinked { address, target } => self.load_linked(
+                vcpu, registers, address, target,
+            ),
+            Request::StoreConditional {
+                address,
+                value,
+                target,
+            } => self.store_conditional(vcpu, registers, address, value, target),
         }
     }
 
@@ -289,7 +410,7 @@ impl Machine {
             Err(exception) => return Err(StepFault::Raised(exception)),
         };
         match execute(&decode(word), self.registers(vcpu)) {
-            Ok(effect) => self.answer(vcpu, effect),
+            Ok(Effect { registers, request }) => self.answer(vcpu, registers, request),
             Err(exception) => Err(StepFault::Raised(exception)),
         }
     }

@@ -8,7 +8,7 @@ use std::test::Fail;
 /// ORI 1, 0, 1; LUI 2, CFFF; ORI 2, 2, F000; SW 1, 0(2); SW 0, 4(2); a word that isn't built.
 const PRINTS_AND_HALTS: [u8; 24] = [
     0x34, 0x01, 0x00, 0x01, 0x3C, 0x02, 0xCF, 0xFF, 0x34, 0x42, 0xF0, 0x00, 0xAC, 0x41, 0x00, 0x00,
-    0xAC, 0x40, 0x00, 0x04, 0x00, 0x22, 0x18, 0x20,
+    0xAC, 0x40, 0x00, 0x04, 0x42, 0x00, 0x00, 0x02,
 ];
 
 /// A guest's image of one page, which begins with these bytes.
@@ -69,7 +69,7 @@ fn a_guest_of_two_halts_with_the_last(rt: HostRuntime) -> Result<(), Fail> {
 fn a_step_that_is_not_built_ends_the_guest(rt: HostRuntime) -> Result<(), Fail> {
     let alloc = rt.alloc();
     for (entry, word) in [
-        (0xC000_0014, 0x0022_1820),
+        (0xC000_0014, 0x4200_0002),
         (0xC000_1000, 0),
         (0x0000_0000, 0),
         (0xC000_0002, 0),

@@ -1,6 +1,7 @@
 //! Where an address leads.
 ghost use Rattle.std.specs.Prelude.{◌≡◌, ◌<◌, ◌^◌};
 ghost use Rattle.base_words.specs.Place.{place as place_of, physical as physical_of};
+ghost use Rattle.guest_core.specs.MemoryPlace.{memory_place as memory_place_of};
 
 use base_words::{Exception, Place, Use};
 
@@ -35,5 +36,16 @@ pub fn place(pages: u32, unit: u32, purpose: Use, address: u32) -> Result<Place,
         0..0x8000_0000 | 0xD000_0000..0xE000_0000 => Err(Exception::TlbRefill(purpose, address)),
         DIRECT..0xD000_0000 => physical(pages, purpose, address - DIRECT),
         _ => Err(Exception::AddressError(purpose, address)),
+    }
+}
+
+/// The offset of memory to which an address leads that has to be a multiple of `unit`; the device page is a bus error.
+pub fn memory_place(pages: u32, unit: u32, purpose: Use, address: u32) -> Result<u32, Exception>
+    requires { 0 < unit }
+    ensures { result ≡ memory_place_of purpose (place_of pages unit purpose address) }
+{
+    match place(pages, unit, purpose, address)? {
+        Place::Memory(offset) => Ok(offset),
+        Place::Device(_) => Err(Exception::BusError(purpose)),
     }
 }

@@ -8,7 +8,7 @@ use base_words::{Register, Regs};
 pub fn read(regs: &Regs, register: Register) -> u32
     ensures { result ≡ register_of regs.now register }
 {
-    let number = register.number();
+    let number = register.value() as usize;
     if number == 0 { 0 } else { regs.general[number] }
 }
 
@@ -16,7 +16,7 @@ pub fn read(regs: &Regs, register: Register) -> u32
 pub fn write(regs: &mut Regs, register: Register, value: u32)
     ensures { regs.new ≡ with_register regs.old register value }
 {
-    let number = register.number();
+    let number = register.value() as usize;
     if number != 0 {
         regs.general[number] = value;
     }

@@ -19,4 +19,6 @@ pub use plan::RunItem;
 pub use top::disco;
 
 #[cfg(test)]
+mod programs;
+#[cfg(test)]
 mod tests;

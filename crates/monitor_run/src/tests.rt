@@ -14,24 +14,24 @@ const PRINTS_A: [u8; 20] = [
     0x3C, 0x01, 0xCF, 0xFF, 0x34, 0x21, 0xF0, 0x00, 0x24, 0x02, 0x00, 0x41, 0xAC, 0x22, 0x00, 0x00,
     0xAC, 0x22, 0x00, 0x04,
 ];
-/// ADD 3, 1, 2, which isn't built yet.
-const ADDS: [u8; 4] = [0x00, 0x22, 0x18, 0x20];
+/// TLBWI, which isn't built yet.
+const WRITES_THE_TLB: [u8; 4] = [0x42, 0x00, 0x00, 0x02];
 
 /// A call, and what has to come of it.
 #[derive(Clone, Copy)]
-struct Row<'a> {
-    about: &'a str,
-    words: &'a [&'a str],
-    file: &'a [u8],
-    shelf_fails: &'a [u64],
-    sink_fails: &'a [u64],
-    status: u8,
-    output: &'a str,
-    guests: usize,
+pub(crate) struct Row<'a> {
+    pub(crate) about: &'a str,
+    pub(crate) words: &'a [&'a str],
+    pub(crate) file: &'a [u8],
+    pub(crate) shelf_fails: &'a [u64],
+    pub(crate) sink_fails: &'a [u64],
+    pub(crate) status: u8,
+    pub(crate) output: &'a str,
+    pub(crate) guests: usize,
 }
 
 /// The call that runs the program to its halt.
-fn halts<'a>() -> Row<'a> {
+pub(crate) fn halts<'a>() -> Row<'a> {
     Row {
         about: "five steps",
         words: &["--raw", "a.raw", "--steps", "5"],
@@ -76,7 +76,7 @@ fn words_of(alloc: Global, words: &[&str]) -> Result<Vec<String>, AllocError> {
 }
 
 /// Makes the call of a row, and compares status, output and record.
-fn try_row<R: Abort + Threads + Wait + Sync>(
+pub(crate) fn try_row<R: Abort + Threads + Wait + Sync>(
     rt: &R,
     alloc: Global,
     row: &Row,
@@ -134,8 +134,8 @@ fn runs_end_as_they_should(rt: HostRuntime) -> Result<(), Fail> {
         &Row {
             about: "an unbuilt word",
             words: &["--raw", "a.raw", "--steps", "1"],
-            file: &ADDS,
-            output: "guest 0 console 0\n\nend unbuilt 00221820\n",
+            file: &WRITES_THE_TLB,
+            output: "guest 0 console 0\n\nend unbuilt 42000002\n",
             ..halts()
         },
     )?;
