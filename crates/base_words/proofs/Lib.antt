@@ -1,2 +1,4 @@
 pub mod WordLemmas
 mod WorkedRuns
+mod WorkedExceptions
+mod WorkedPlaces

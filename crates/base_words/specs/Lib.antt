@@ -1,6 +1,9 @@
 pub mod Arithmetic
+pub mod Bits
+pub mod Coprocessor
 pub mod Counts
 pub mod Devices
+pub mod Exception
 pub mod Fields
 pub mod Instruction
 pub mod Membership
@@ -10,3 +13,4 @@ pub mod OpcodeMap
 pub mod OwnStep
 pub mod Place
 pub mod PrivateRun
+pub mod Tlb

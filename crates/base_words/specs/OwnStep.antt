@@ -19,7 +19,7 @@ use Rattle.base_words.specs.Memory.{word_at, with_word}
 use Rattle.base_words.specs.Merging.{loaded_value, stored_word, load_unit, store_unit}
 use Rattle.base_words.specs.OpcodeMap.{decoded}
 use Rattle.base_words.specs.Instruction.{register, with_register, effect}
-use Rattle.base_words.specs.Place.{place}
+use Rattle.base_words.specs.Place.{AddressSpace, place}
 use Rattle.base_words.specs.Devices.{device_register}
 
 -- a virtual processor: its registers, the line that it has linked, whether it has halted, and how many steps it made
@@ -39,6 +39,10 @@ pub record PrivateMachine : Type 0 where
 -- all registers 0, and the program counter at an entry
 abbrev pub reset : ℕ → Regs
 reset entry = record { general = replicate 32 0; hi = 0; lo = 0; pc = entry; slot = None }
+
+-- Coprocessor 0 isn't part of a virtual processor yet: it is in kernel mode, and no entry of the TLB maps a page.
+abbrev pub kernel_space : AddressSpace
+kernel_space = record { user = false; asid = 0; entries = [] }
 
 -- a virtual processor at the start; one past the last has halted
 abbrev pub started : ℕ → Vcpu
@@ -141,10 +145,10 @@ conditional_store m v regs target value (Ok (Device offset)) = Err (BusError Sto
 -- what the instruction asked of memory is done
 abbrev pub answered : PrivateMachine → ℕ → Regs → Request → Result PrivateMachine Exception
 answered m v regs asks.Nothing = Ok (stepped m v regs)
-answered m v regs (asks.Load kind address target) = loaded m v regs kind target (place m.pages (load_unit kind) Load address)
-answered m v regs (asks.Store kind address value) = stored m v regs kind value (place m.pages (store_unit kind) Store address)
-answered m v regs (asks.LoadLinked address target) = linked_load m v regs target (place m.pages 4 Load address)
-answered m v regs (asks.StoreConditional address value target) = conditional_store m v regs target value (place m.pages 4 Store address)
+answered m v regs (asks.Load kind address target) = loaded m v regs kind target (place kernel_space m.pages (load_unit kind) Load address)
+answered m v regs (asks.Store kind address value) = stored m v regs kind value (place kernel_space m.pages (store_unit kind) Store address)
+answered m v regs (asks.LoadLinked address target) = linked_load m v regs target (place kernel_space m.pages 4 Load address)
+answered m v regs (asks.StoreConditional address value target) = conditional_store m v regs target value (place kernel_space m.pages 4 Store address)
 
 -- the instruction's effect, or the exception that it raises
 abbrev pub executed : PrivateMachine → ℕ → Result Effect Exception → Result PrivateMachine Exception
@@ -159,7 +163,7 @@ word_of m (Ok (Device offset)) = Err (BusError Fetch)
 
 -- the word at the program counter
 abbrev pub fetched : PrivateMachine → ℕ → Result ℕ Exception
-fetched m v = word_of m (place m.pages 4 Fetch (vcpu m v).registers.pc)
+fetched m v = word_of m (place kernel_space m.pages 4 Fetch (vcpu m v).registers.pc)
 
 abbrev pub decided : PrivateMachine → ℕ → Result ℕ Exception → Result PrivateMachine Exception
 decided m v (Err x) = Err x

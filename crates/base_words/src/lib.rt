@@ -2,6 +2,7 @@
 //! instructions, exceptions and events of a guest. `specs/` has the private machine, by which a guest's console is defined.
 #![tactic(auto)]
 
+mod coprocessor;
 mod effect;
 mod events;
 mod exception;
@@ -14,8 +15,13 @@ mod place;
 mod regs;
 mod sequence;
 mod sets;
+mod tlb;
 mod words;
 
+pub use coprocessor::{
+    Cause, Context, Cp0Register, Cp0Registers, EntryHi, EntryLo, EntryNumber, Index, Mode,
+    PagePair, Pending, Status,
+};
 pub use effect::{Effect, HiLo, Request};
 pub use events::{End, Event, OwnEvent};
 pub use exception::{Exception, Use};
@@ -31,6 +37,7 @@ pub use place::{DeviceRegister, Place};
 pub use regs::Regs;
 pub use sequence::{Bytes, CellList, GuestList, LendList, NodeList, Sequence};
 pub use sets::{CellSet, IdSet, ProcSet};
+pub use tlb::{Entry, TlbAnswer};
 pub use words::{read_word, write_word};
 
 #[cfg(test)]

@@ -7,15 +7,12 @@ use Rattle.outside_io.specs.declared.shelf.ShelfFault.{ShelfFault}
 use Rattle.outside_io.specs.declared.shelf.ShelfFault.TheVariants.{Failed, Long as TooLong, Memory as NoMemory}
 use Rattle.outside_io.specs.Reading.{Told, Untold, Absent, Holds, ShelfView, MayBe, IsRead, IsLong, IsFailed, Reads}
 use Rattle.monitor_run.specs.declared.faults.Fault.{Fault}
-use Rattle.monitor_run.specs.declared.faults.Fault.TheVariants.{Words, Read, Long, BadImage}
-use Rattle.monitor_run.specs.declared.faults.ImageFault.{ImageFault}
-use Rattle.base_words.specs.PrivateRun.{Image as PrivateImage}
-use Rattle.monitor_run.specs.Words.{RawForm, form_of}
-use Rattle.monitor_run.specs.Accepted.{raw_image}
+use Rattle.monitor_run.specs.declared.faults.Fault.TheVariants.{Words, Read, Long}
+use Rattle.monitor_run.specs.Words.{form_of}
 use Rattle.monitor_run.specs.declared.faults.Refusal.{Refusal}
 use Rattle.monitor_run.specs.declared.faults.Refusal.TheVariants.{Fault as Faulty, Memory}
-use Rattle.monitor_run.specs.Chain.{Files, AreGiven, FailedAt, Job as PlannedJob, Monitored, ◌>>=◌, of_guest, fitting, content, raw_job, job_of, longest_image}
-use Rattle.monitor_run.specs.Reads.{ReadsAs, FaultAt, Gives, IsCaused}
+use Rattle.monitor_run.specs.Chain.{Files, AreGiven, FailedAt, fitting, content, job_of}
+use Rattle.monitor_run.specs.Reads.{ReadsAs, FaultAt}
 
 -- what a file may hold of which a shelf tells so much
 pub found_by : Told → Option (List ℕ)
@@ -115,19 +112,6 @@ ReadsAs-fault old new name most TooLong (Faulty f) read at told = subst (λ (x :
 ReadsAs-fault old new name most NoMemory (Faulty f) read at told = absurd at
 ReadsAs-fault old new name most fault Memory read at told = ReadsAs-starved old new (λ files. content files name most) told
 
--- a raw guest's fault is no failed read
-IsCaused-raw : (old new : ShelfView) (steps : ℕ) (bytes : List ℕ) (answer : Result PlannedJob Refusal) → Gives answer (raw_job steps bytes) → IsCaused old new answer
-IsCaused-raw old new steps bytes (Ok job) gives = tt
-IsCaused-raw old new steps bytes (Err Memory) gives = tt
-IsCaused-raw old new steps bytes (Err (Faulty Words)) gives = tt
-IsCaused-raw old new steps bytes (Err (Faulty (Long name))) gives = tt
-IsCaused-raw old new steps bytes (Err (Faulty (BadImage guest fault))) gives = tt
-IsCaused-raw old new steps bytes (Err (Faulty (Read name))) gives = absurd (not_read (raw_image bytes) gives)
-  where
-    not_read : (image : Result PrivateImage ImageFault) → ◌>>=◌ (of_guest 0 image) (λ i. Ok (Monitored i steps)) ≡ Err (Read name) → ⊥
-    not_read (Ok i) is = cc
-    not_read (Err f) is = cc
-
 -- words that are none of the forms
 pub ReadsAs-words : (old : ShelfView) (words : List (List ℕ)) → form_of words ≡ None → ReadsAs old old (λ files. job_of words files) (Err (Faulty Words))
 ReadsAs-words old words none = record {
@@ -137,26 +121,3 @@ ReadsAs-words old words none = record {
   told = refl;
   gives = rw none refl;
 }
-
--- words that are a form, and a file that was read
-pub ReadsAs-raw : (old new : ShelfView) (words : List (List ℕ)) (form : RawForm) (bytes : List ℕ) (answer : Result PlannedJob Refusal) → form_of words ≡ Some form
-    → ReadsAs old new (λ files. content files form.file longest_image) (Ok bytes) → Gives answer (raw_job form.steps bytes) → ReadsAs old new (λ files. job_of words files) answer
-ReadsAs-raw old new words form bytes answer is read gives = record {
-  files = read.files;
-  given = read.given;
-  caused = IsCaused-raw old new form.steps bytes answer gives;
-  told = read.told;
-  gives = subst (λ (chain : Result PlannedJob Fault). Gives answer chain) (sym (rw (is, read.gives) refl)) gives;
-}
-
--- words that are a form, and a file that wasn't read
-pub ReadsAs-stopped : (old new : ShelfView) (words : List (List ℕ)) (form : RawForm) (refusal : Refusal) → form_of words ≡ Some form
-    → ReadsAs old new (λ files. content files form.file longest_image) (Err refusal) → ReadsAs old new (λ files. job_of words files) (Err refusal)
-ReadsAs-stopped old new words form Memory is read = ReadsAs-starved old new (λ files. job_of words files) read.told
-ReadsAs-stopped old new words form (Faulty fault) is read = record { files = read.files; given = read.given; caused = caused_by fault read.caused; told = read.told; gives = rw (is, read.gives) refl }
-  where
-    caused_by : (f : Fault) → IsCaused {A = List ℕ} old new (Err (Faulty f)) → IsCaused {A = PlannedJob} old new (Err (Faulty f))
-    caused_by (Read name) caused = caused
-    caused_by Words caused = caused
-    caused_by (Long name) caused = caused
-    caused_by (BadImage guest f) caused = caused

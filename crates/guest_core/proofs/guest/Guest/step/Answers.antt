@@ -1,4 +1,4 @@
-use Rattle.std.proofs.Common.{◌≡◌, ℕ, ◌++◌, ◌∷◌, [], List, Bool, Option, Some, None, refl, ap, sym, ◌∙◌, subst}
+use Rattle.std.proofs.Common.{◌≡◌, ℕ, ◌<◌, ◌++◌, ◌∷◌, [], List, Bool, Option, Some, None, refl, ap, sym, ◌∙◌, subst}
 use Rattle.base_words.specs.declared.events.Event.{Event}
 use Rattle.base_words.specs.declared.events.Event.TheVariants.{Emulate, End as Ending}
 use Rattle.base_words.specs.declared.events.End.{End}
@@ -52,3 +52,13 @@ returns-in-Err-Raised c =
     subst (λ (x : Monitored). HasEnded x end new) c.self.view_is
     (HasEnded-unbuilt (guest_of g) new p v c.in-Err-Raised.field-0-0 m word (going g _ c.self.view_is c.self.invariant c.requires.not_ended) (running g _ p.0 v.0 c.self.view_is c.requires.runs)
     attempts.0 attempts.1 c.word.ensures refl journal)
+
+-- the machine keeps its virtual processors, and a guest that has ended owes no running one
+pub invariant_of-self-in-Err-Raised : goal.invariant_of-self-in-Err-Raised
+invariant_of-self-in-Err-Raised c =
+    let sound = c.self.invariant in
+    record {
+      few = sound.few;
+      there = λ p v loaded. subst (λ n. v < n) (sym c.attempt.ensures.vcpus) (sound.there p v loaded);
+      runs = λ e. search;
+    }

@@ -1,0 +1,11 @@
+//! The guest's TLB, which its kernel fills: 48 entries, each of a pair of pages.
+#![tactic(auto)]
+
+mod entries;
+mod tlb;
+
+pub use base_words::{Entry, TlbAnswer};
+pub use tlb::Tlb48;
+
+#[cfg(test)]
+mod tests;
