@@ -1,7 +1,7 @@
 //! Coprocessor 0 as the rest of the processor uses it.
 ghost use Rattle.std.specs.Prelude.{◌≡◌, false};
 ghost use Rattle.base_words.specs.Coprocessor.{at_reset as at_reset_of, register_at, reads, writes, probe_answered, in_user_mode, interrupts, line_set, ticked, next_random as next_random_of, with_line as with_line_of};
-ghost use Rattle.base_words.specs.Exception.{entered, vector as vector_of, handling, restart, with_restart, with_details};
+ghost use Rattle.base_words.specs.Exception.{entered, vector as vector_of, handling, with_restart, with_details};
 
 use crate::exceptions::{Details, describe};
 use crate::registers::{LAST_ENTRY, at_reset, read, write};

@@ -3,8 +3,8 @@ ghost use Rattle.std.specs.Prelude.{◌≡◌};
 ghost use Rattle.base_words.specs.Coprocessor.{reads, writes, entry_hi_word as entry_hi_word_of, status_word as status_word_of, cause_word as cause_word_of, at_reset as at_reset_of, nothing_pending as nothing_pending_of};
 
 use crate::words::{
-    bit, entry_hi, entry_lo, entry_number, mode_code, page_pair, pending_bits, software, status_of,
-    table,
+    BAD_PAIR, CODE, EXCEPTION, FAILED, MASK, MODE, PAIR, PENDING, SLOT, TABLE, UNIT, bit, entry_hi,
+    entry_lo, entry_number, mode_code, page_pair, pending_bits, software, status_of, table,
 };
 use base_words::{
     Cause, Context, Cp0Register, Cp0Registers, EntryHi, Field, Index, Mode, Pending, Status,
@@ -73,16 +73,16 @@ fn entry_hi_word(entry: &EntryHi) -> u32
     ensures { result ≡ entry_hi_word_of entry.now }
 {
     let asid = entry.asid;
-    entry.pair.value() * 0x2000 + u32::from(asid)
+    entry.pair.value() * PAIR + u32::from(asid)
 }
 
 /// Status as a word.
 fn status_word(status: &Status) -> u32
     ensures { result ≡ status_word_of status.now }
 {
-    u32::from(status.mask) * 0x100
-        + mode_code(status.mode) * 8
-        + bit(status.exception) * 2
+    u32::from(status.mask) * MASK
+        + mode_code(status.mode) * MODE
+        + bit(status.exception) * EXCEPTION
         + bit(status.enabled)
 }
 
@@ -90,10 +90,10 @@ fn status_word(status: &Status) -> u32
 fn cause_word(cause: &Cause) -> u32
     ensures { result ≡ cause_word_of cause.now }
 {
-    bit(cause.slot) * 0x8000_0000
-        + cause.unit.value() * 0x1000_0000
-        + pending_bits(&cause.pending) * 0x100
-        + cause.code.value() * 4
+    bit(cause.slot) * SLOT
+        + cause.unit.value() * UNIT
+        + pending_bits(&cause.pending) * PENDING
+        + cause.code.value() * CODE
 }
 
 /// What a register reads.
@@ -101,13 +101,12 @@ pub fn read(registers: &Cp0Registers, register: Cp0Register) -> u32
     ensures { result ≡ reads registers.now register }
 {
     match register {
-        Cp0Register::Index => bit(registers.index.failed) * 0x8000_0000
-            + registers.index.entry.value(),
+        Cp0Register::Index => bit(registers.index.failed) * FAILED + registers.index.entry.value(),
         Cp0Register::Random => registers.random.value(),
         Cp0Register::EntryLo0 => registers.entry_lo0.value(),
         Cp0Register::EntryLo1 => registers.entry_lo1.value(),
-        Cp0Register::Context => registers.context.table.value() * 0x80_0000
-            + registers.context.pair.value() * 0x10,
+        Cp0Register::Context => registers.context.table.value() * TABLE
+            + registers.context.pair.value() * BAD_PAIR,
         Cp0Register::Wired => registers.wired.value(),
         Cp0Register::BadVAddr => registers.bad_address,
         Cp0Register::Count => registers.count,

@@ -319,6 +319,32 @@ fn the_timer_interrupts_where_count_comes_to_compare(rt: HostRuntime) {
     assert_eq!(rt; cp0.read(CAUSE), 0x8000);
 }
 
+#[test]
+fn a_timer_set_by_a_program_interrupts_after_so_many_steps(rt: HostRuntime) {
+    // Compare becomes 20 in the second step, and IM7 and IE go on in the fourth
+    let mut cp0 = Cp0::new();
+    cp0.tick();
+    cp0.write(COMPARE, 20);
+    cp0.tick();
+    cp0.tick();
+    cp0.write(STATUS, 0x8001);
+    cp0.tick();
+    for _ in 4..19 {
+        cp0.tick();
+        assert!(rt; !cp0.pending());
+    }
+    // the twentieth step brings Count to 20
+    cp0.tick();
+    assert_eq!(rt; cp0.read(COUNT), 20);
+    assert!(rt; cp0.pending());
+    assert_eq!(rt;
+        cp0.enter(Exception::Interrupt, 0xC000_0010, false),
+        0xC000_0180
+    );
+    assert_eq!(rt; cp0.read(CAUSE), 0x8000);
+    assert!(rt; !cp0.pending());
+}
+
 /// Cause after one line is on.
 fn with_line(ip: u8) -> u32 {
     let mut cp0 = Cp0::new();

@@ -1,6 +1,6 @@
 //! Between a register's fields and its word.
-ghost use Rattle.std.specs.Prelude.{◌≡◌, ◌<◌, ◌^◌, slice_index_or};
-ghost use Rattle.base_words.specs.Bits.{bit as bit_of, flag as flag_of, bits};
+ghost use Rattle.std.specs.Prelude.{◌≡◌, ◌<◌, ◌%◌, ◌^◌, slice_index_or};
+ghost use Rattle.base_words.specs.Bits.{bit as bit_of, bits};
 ghost use Rattle.base_words.specs.Tlb.{page_pair as page_pair_of, address_space as address_space_of};
 ghost use Rattle.base_words.specs.Coprocessor.{register_map, mode_code as mode_code_of, mode_of as mode_of_code, pending_bits as pending_bits_of, status_of as status_of_word};
 ghost use Rattle.base_words.specs.declared.coprocessor.Cp0Register.TheVariants.{Unused};
@@ -8,6 +8,37 @@ ghost use Rattle.base_words.specs.declared.coprocessor.Cp0Register.TheVariants.{
 use base_words::{
     Cp0Register, EntryHi, EntryLo, EntryNumber, Field, Mode, PagePair, Pending, Status,
 };
+
+/// Index's P.
+pub const FAILED: u32 = 1 << 31;
+/// The lowest bit of Context's PTEBase.
+pub const TABLE: u32 = 1 << 23;
+/// The lowest bit of Context's BadVPN2.
+pub const BAD_PAIR: u32 = 1 << 4;
+/// The lowest bit of EntryHi's VPN2.
+pub const PAIR: u32 = 1 << 13;
+/// The lowest bit of Status's IM.
+pub const MASK: u32 = 1 << 8;
+/// The lowest bit of Status's KSU.
+pub const MODE: u32 = 1 << 3;
+/// Status's EXL. IE is the lowest bit of the word.
+pub const EXCEPTION: u32 = 1 << 1;
+/// Cause's BD.
+pub const SLOT: u32 = 1 << 31;
+/// The lowest bit of Cause's CE.
+pub const UNIT: u32 = 1 << 28;
+/// The lowest bit of Cause's IP.
+pub const PENDING: u32 = 1 << 8;
+/// The lowest bit of Cause's ExcCode.
+pub const CODE: u32 = 1 << 2;
+/// IP7 in IP.
+const TIMER: u32 = 1 << 7;
+/// IP4 in IP.
+const VCPU: u32 = 1 << 4;
+/// IP3 in IP.
+const PACKET: u32 = 1 << 3;
+/// IP2 in IP.
+const INPUT: u32 = 1 << 2;
 
 /// The registers by their numbers, eight to a line.
 #[rattlefmt::skip]
@@ -40,32 +71,40 @@ pub fn bit(flag: bool) -> u32
     if flag { 1 } else { 0 }
 }
 
+/// The low bits of a word.
+fn low<const BITS: u32>(word: u32) -> Field<BITS>
+    requires { BITS < 32 }
+    ensures { result ≡ word % 2 ^ BITS }
+{
+    Field::new(word % (1 << BITS))
+}
+
 /// Bits 5 to 0.
 pub fn entry_number(word: u32) -> EntryNumber
     ensures { result ≡ bits 5 0 word }
 {
-    Field::new(word & 0x3F)
+    low(word)
 }
 
 /// Bits 29 to 0.
 pub fn entry_lo(word: u32) -> EntryLo
     ensures { result ≡ bits 29 0 word }
 {
-    Field::new(word & 0x3FFF_FFFF)
+    low(word)
 }
 
 /// Bits 31 to 23.
 pub fn table(word: u32) -> Field<9>
     ensures { result ≡ bits 31 23 word }
 {
-    Field::new(word >> 23 & 0x1FF)
+    low(word / TABLE)
 }
 
 /// Bits 31 to 13.
 pub fn page_pair(word: u32) -> PagePair
     ensures { result ≡ page_pair_of word }
 {
-    Field::new(word >> 13 & 0x7_FFFF)
+    low(word / PAIR)
 }
 
 /// What EntryHi holds of a word.
@@ -75,7 +114,7 @@ pub fn entry_hi(word: u32) -> EntryHi
 {
     EntryHi {
         pair: page_pair(word),
-        asid: (word & 0xFF) as u8,
+        asid: (word % 256) as u8,
     }
 }
 
@@ -101,10 +140,10 @@ pub fn status_of(word: u32) -> Status
     ensures { result ≡ status_of_word word }
 {
     Status {
-        enabled: word & 1 == 1,
-        exception: word >> 1 & 1 == 1,
-        mode: mode_of(word >> 3 & 3),
-        mask: (word >> 8 & 0xFF) as u8,
+        enabled: word % 2 == 1,
+        exception: word / EXCEPTION % 2 == 1,
+        mode: mode_of(word / MODE % 4),
+        mask: (word / MASK % 256) as u8,
     }
 }
 
@@ -112,7 +151,7 @@ pub fn status_of(word: u32) -> Status
 pub fn software(word: u32) -> Field<2>
     ensures { result ≡ bits 9 8 word }
 {
-    Field::new(word >> 8 & 3)
+    low(word / PENDING)
 }
 
 /// IP, eight bits.
@@ -120,9 +159,9 @@ pub fn pending_bits(pending: &Pending) -> u32
     ensures bits { result ≡ pending_bits_of pending.now }
     ensures within { result < 2 ^ 8 }
 {
-    bit(pending.timer) * 0x80
-        + bit(pending.vcpu) * 0x10
-        + bit(pending.packet) * 8
-        + bit(pending.input) * 4
+    bit(pending.timer) * TIMER
+        + bit(pending.vcpu) * VCPU
+        + bit(pending.packet) * PACKET
+        + bit(pending.input) * INPUT
         + pending.software.value()
 }
