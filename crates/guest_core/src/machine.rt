@@ -16,8 +16,8 @@ use crate::devices::device_register;
 use crate::translation::{memory_place, place};
 use crate::vcpus::{Vcpu, alike, all_halted, unlink_others};
 use base_words::{
-    Bytes, DeviceRegister, Effect, Exception, LoadKind, Place, Register, Regs, Request, StoreKind,
-    Use, VcpuId, read_word, write_word,
+    Bytes, DeviceRegister, Exception, LoadKind, Place, Register, Regs, Request, StoreKind, Use,
+    VcpuId, read_word, write_word,
 };
 use mips_alu::{execute, load_unit, loaded_value, read, store_unit, stored_word, write};
 use mips_isa::decode;
@@ -123,14 +123,6 @@ impl Machine {
         self.fetch(vcpu).unwrap_or(0)
     }
 
-    /// A virtual processor's registers.
-    fn registers(&self, vcpu: VcpuId) -> &Regs
-        requires { vcpu.0 < length self.now.vcpus }
-        ensures { result.now ≡ (vcpu_at self.now vcpu.0).registers }
-    {
-        &self.vcpus[vcpu.0 as usize].registers
-    }
-
     /// Whether a virtual processor has halted.
     pub fn is_halted(&self, vcpu: VcpuId) -> bool
         requires { vcpu.0 < length self.now.vcpus }
@@ -140,13 +132,13 @@ impl Machine {
     }
 
     /// A step is done: these are the registers, and it is counted.
-    fn retire(&mut self, vcpu: VcpuId, registers: Regs)
+    fn retire(&mut self, vcpu: VcpuId, registers: &Regs)
         requires { vcpu.0 < length self.old.vcpus }
-        ensures stepped { self.new ≡ stepped self.old vcpu.0 registers }
+        ensures stepped { self.new ≡ stepped self.old vcpu.0 registers.now }
         ensures vcpus { length self.new.vcpus ≡ length self.old.vcpus }
     {
         let vcpu = &mut self.vcpus[vcpu.0 as usize];
-        vcpu.registers = registers;
+        vcpu.registers = *registers;
         vcpu.steps = vcpu.steps.saturating_add(1);
     }
 
@@ -201,13 +193,13 @@ impl Machine {
     fn store_to_device(
         &mut self,
         vcpu: VcpuId,
-        registers: Regs,
+        registers: &Regs,
         offset: u32,
         value: u32,
     ) -> Result<(), StepFault>
         requires { vcpu.0 < length self.old.vcpus }
         ensures vcpus { length self.new.vcpus ≡ length self.old.vcpus }
-        ensures attempts { Attempts (device_stored self.old vcpu.0 registers value (register_of offset)) self.old self.new result }
+        ensures attempts { Attempts (device_stored self.old vcpu.0 registers.now value (register_of offset)) self.old self.new result }
     {
         match device_register(offset) {
             Some(DeviceRegister::Console) => {
@@ -228,20 +220,20 @@ impl Machine {
     fn load(
         &mut self,
         vcpu: VcpuId,
-        mut registers: Regs,
+        registers: &mut Regs,
         kind: LoadKind,
         address: u32,
         target: Register,
     ) -> Result<(), StepFault>
         requires { vcpu.0 < length self.old.vcpus }
         ensures vcpus { length self.new.vcpus ≡ length self.old.vcpus }
-        ensures attempts { Attempts (answered self.old vcpu.0 registers (asks.Load kind address target)) self.old self.new result }
+        ensures attempts { Attempts (answered self.old vcpu.0 registers.old (asks.Load kind address target)) self.old self.new result }
     {
         match memory_place(self.pages, load_unit(kind), Use::Load, address) {
             Ok(offset) => {
-                let old = read(&registers, target);
+                let old = read(registers, target);
                 let value = loaded_value(kind, self.word_around(offset), old, offset % 4);
-                write(&mut registers, target, value);
+                write(registers, target, value);
                 self.retire(vcpu, registers);
                 Ok(())
             }
@@ -253,7 +245,7 @@ impl Machine {
     fn store_to_memory(
         &mut self,
         vcpu: VcpuId,
-        registers: Regs,
+        registers: &Regs,
         kind: StoreKind,
         offset: u32,
         value: u32,
@@ -262,7 +254,7 @@ impl Machine {
         requires within { offset < 4096 * self.old.pages }
         requires aligned { offset % 4 % store_unit_of kind ≡ 0 }
         ensures vcpus { length self.new.vcpus ≡ length self.old.vcpus }
-        ensures stored { Ok self.new ≡ stored self.old vcpu.0 registers kind value (Ok (Memory offset)) }
+        ensures stored { Ok self.new ≡ stored self.old vcpu.0 registers.now kind value (Ok (Memory offset)) }
     {
         let word = stored_word(kind, self.word_around(offset), value, offset % 4);
         self.write(vcpu, offset, word);
@@ -273,14 +265,14 @@ impl Machine {
     fn store(
         &mut self,
         vcpu: VcpuId,
-        registers: Regs,
+        registers: &Regs,
         kind: StoreKind,
         address: u32,
         value: u32,
     ) -> Result<(), StepFault>
         requires { vcpu.0 < length self.old.vcpus }
         ensures vcpus { length self.new.vcpus ≡ length self.old.vcpus }
-        ensures attempts { Attempts (answered self.old vcpu.0 registers (asks.Store kind address value)) self.old self.new result }
+        ensures attempts { Attempts (answered self.old vcpu.0 registers.now (asks.Store kind address value)) self.old self.new result }
     {
         match place(self.pages, store_unit(kind), Use::Store, address) {
             Ok(Place::Memory(offset)) => {
@@ -299,21 +291,17 @@ impl Machine {
     fn load_linked(
         &mut self,
         vcpu: VcpuId,
-        mut registers: Regs,
+        registers: &mut Regs,
         address: u32,
         target: Register,
     ) -> Result<(), StepFault>
         requires { vcpu.0 < length self.old.vcpus }
         ensures vcpus { length self.new.vcpus ≡ length self.old.vcpus }
-        ensures attempts { Attempts (answered self.old vcpu.0 registers (asks.LoadLinked address target)) self.old self.new result }
+        ensures attempts { Attempts (answered self.old vcpu.0 registers.old (asks.LoadLinked address target)) self.old self.new result }
     {
         match memory_place(self.pages, 4, Use::Load, address) {
             Ok(offset) => {
-                write(
-                    &mut registers,
-                    target,
-                    read_word(&self.memory, offset as usize),
-                );
+                write(registers, target, read_word(&self.memory, offset as usize));
                 self.retire(vcpu, registers);
                 self.link(vcpu, Some(offset / 32));
                 Ok(())
@@ -326,7 +314,7 @@ impl Machine {
     fn store_if_linked(
         &mut self,
         vcpu: VcpuId,
-        mut registers: Regs,
+        registers: &mut Regs,
         offset: u32,
         value: u32,
         target: Register,
@@ -334,13 +322,13 @@ impl Machine {
         requires vcpu { vcpu.0 < length self.old.vcpus }
         requires within { offset < 4096 * self.old.pages }
         ensures vcpus { length self.new.vcpus ≡ length self.old.vcpus }
-        ensures stored { Ok self.new ≡ conditional_store self.old vcpu.0 registers target value (Ok (Memory offset)) }
+        ensures stored { Ok self.new ≡ conditional_store self.old vcpu.0 registers.old target value (Ok (Memory offset)) }
     {
         let linked = self.vcpus[vcpu.0 as usize].link == Some(offset / 32);
         if linked {
             self.write(vcpu, offset, value);
         }
-        write(&mut registers, target, u32::from(linked));
+        write(registers, target, u32::from(linked));
         self.retire(vcpu, registers);
         self.link(vcpu, None);
     }
@@ -349,14 +337,14 @@ impl Machine {
     fn store_conditional(
         &mut self,
         vcpu: VcpuId,
-        registers: Regs,
+        registers: &mut Regs,
         address: u32,
         value: u32,
         target: Register,
     ) -> Result<(), StepFault>
         requires { vcpu.0 < length self.old.vcpus }
         ensures vcpus { length self.new.vcpus ≡ length self.old.vcpus }
-        ensures attempts { Attempts (answered self.old vcpu.0 registers (asks.StoreConditional address value target)) self.old self.new result }
+        ensures attempts { Attempts (answered self.old vcpu.0 registers.old (asks.StoreConditional address value target)) self.old self.new result }
     {
         match memory_place(self.pages, 4, Use::Store, address) {
             Ok(offset) => {
@@ -368,10 +356,15 @@ impl Machine {
     }
 
     /// What an instruction asked of memory is done, and with it the step.
-    fn answer(&mut self, vcpu: VcpuId, registers: Regs, request: Request) -> Result<(), StepFault>
+    fn answer(
+        &mut self,
+        vcpu: VcpuId,
+        registers: &mut Regs,
+        request: Request,
+    ) -> Result<(), StepFault>
         requires { vcpu.0 < length self.old.vcpus }
         ensures vcpus { length self.new.vcpus ≡ length self.old.vcpus }
-        ensures attempts { Attempts (answered self.old vcpu.0 registers request) self.old self.new result }
+        ensures attempts { Attempts (answered self.old vcpu.0 registers.old request) self.old self.new result }
     {
         match request {
             Request::Nothing => {
@@ -409,8 +402,9 @@ impl Machine {
             Ok(word) => word,
             Err(exception) => return Err(StepFault::Raised(exception)),
         };
-        match execute(&decode(word), self.registers(vcpu)) {
-            Ok(Effect { registers, request }) => self.answer(vcpu, registers, request),
+        let mut registers = self.vcpus[vcpu.0 as usize].registers;
+        match execute(&decode(word), &mut registers) {
+            Ok(request) => self.answer(vcpu, &mut registers, request),
             Err(exception) => Err(StepFault::Raised(exception)),
         }
     }

@@ -1,95 +1,129 @@
 //! One instruction on the registers.
-ghost use Rattle.std.specs.Prelude.{◌≡◌, Option, Some, None};
-ghost use Rattle.base_words.specs.Instruction.{effect, computed, done, leads, trapped, branched, to_slot, linked as linked_to, jump_target as target_of, address as address_of, half_of_product, with_half as half_replaced, register as register_of};
+ghost use Rattle.std.specs.Prelude.{◌≡◌};
+ghost use Rattle.base_words.specs.Instruction.{effect, computed, done, leads, trapped, branched, to_slot, linked, jump_target as target_of, address as address_of, half_of_product, with_half, register as register_of};
+ghost use Rattle.mips_alu.specs.Execution.{Executes, outside_slot};
 ghost use Rattle.mips_alu.specs.Result.{option_of};
 
 use crate::arithmetic::{AluOut, alu, holds, mul_div, operand, shift, sign_extend};
 use crate::registers::{advance, read, write};
-use base_words::{Effect, Exception, Half, Instr, JumpIndex, Register, Regs, Request, Untaken};
+use base_words::{Exception, Half, Instr, JumpIndex, Register, Regs, Request, Untaken};
 
 /// The instruction is done, and the next one follows.
-fn finish(mut registers: Regs, request: Request) -> Result<Effect, Exception>
-    ensures { result ≡ done registers request }
+fn finish(regs: &mut Regs, request: Request) -> Result<Request, Exception>
+    ensures { Executes (done regs.old request) regs.old regs.new result }
 {
-    advance(&mut registers);
-    Ok(Effect { registers, request })
+    advance(regs);
+    Ok(request)
 }
 
 /// A computed value goes into a register, and the next instruction follows.
-fn put(out: AluOut, register: Register, regs: &Regs) -> Result<Effect, Exception>
-    ensures { result ≡ computed (option_of out) register regs.now }
+fn put(regs: &mut Regs, register: Register, out: AluOut) -> Result<Request, Exception>
+    ensures { Executes (computed (option_of out) register regs.old) regs.old regs.new result }
 {
     match out {
         AluOut::Value(value) => {
-            let mut registers = *regs;
-            write(&mut registers, register, value);
-            finish(registers, Request::Nothing)
+            write(regs, register, value);
+            finish(regs, Request::Nothing)
         }
         AluOut::Overflow => Err(Exception::Overflow),
     }
 }
 
 /// A trap is raised where its condition holds.
-fn trap(raised: bool, regs: &Regs) -> Result<Effect, Exception>
-    ensures { result ≡ trapped raised regs.now }
+fn trap(regs: &mut Regs, raised: bool) -> Result<Request, Exception>
+    ensures { Executes (trapped raised regs.old) regs.old regs.new result }
 {
     if raised {
         Err(Exception::Trap)
     } else {
-        finish(*regs, Request::Nothing)
-    }
-}
-
-/// A branch or a jump; in a delay slot it is reserved.
-fn lead(slot: Option<u32>, registers: Regs) -> Result<Effect, Exception>
-    ensures { result ≡ leads slot registers }
-{
-    match slot {
-        None => Ok(Effect {
-            registers,
-            request: Request::Nothing,
-        }),
-        Some(_) => Err(Exception::ReservedInstruction),
+        finish(regs, Request::Nothing)
     }
 }
 
 /// The instruction in the delay slot follows, and then the target.
-fn jump(mut registers: Regs, target: u32) -> Regs
-    ensures { result ≡ to_slot registers target }
+fn enter_slot(regs: &mut Regs, target: u32)
+    ensures { regs.new ≡ to_slot regs.old target }
 {
-    registers.pc = registers.pc.wrapping_add(4);
-    registers.slot = Some(target);
-    registers
+    regs.pc = regs.pc.wrapping_add(4);
+    regs.slot = Some(target);
 }
 
-/// A branch: where it isn't taken its delay slot follows, or is passed over.
-fn branch(taken: bool, untaken: Untaken, offset: u16, mut registers: Regs) -> Regs
-    ensures { result ≡ branched taken untaken offset registers }
+/// The address after the delay slot goes into a register.
+fn link(regs: &mut Regs, register: Register)
+    ensures { regs.new ≡ linked regs.old register }
 {
-    let pc = registers.pc;
+    write(regs, register, regs.pc.wrapping_add(8));
+}
+
+/// Where a branch leads: where it isn't taken its delay slot follows, or is passed over.
+fn go_on(regs: &mut Regs, taken: bool, untaken: Untaken, offset: u16)
+    ensures { regs.new ≡ branched taken untaken offset regs.old }
+{
+    let past = regs.pc.wrapping_add(8);
     if taken {
-        let target = pc
-            .wrapping_add(4)
-            .wrapping_add(sign_extend(offset).wrapping_mul(4));
-        return jump(registers, target);
+        let slot = regs.pc.wrapping_add(4);
+        return enter_slot(regs, slot.wrapping_add(sign_extend(offset).wrapping_mul(4)));
     }
     match untaken {
-        Untaken::Slot => jump(registers, pc.wrapping_add(8)),
+        Untaken::Slot => enter_slot(regs, past),
         Untaken::PastSlot => {
-            registers.pc = pc.wrapping_add(8);
-            registers.slot = None;
-            registers
+            regs.pc = past;
+            regs.slot = None;
         }
     }
 }
 
-/// The address after the delay slot goes into a register.
-fn linked(mut registers: Regs, register: Register) -> Regs
-    ensures { result ≡ linked_to registers register }
+/// A branch or a jump is reserved in a delay slot.
+fn test_slot(regs: &Regs) -> Result<(), Exception>
+    ensures { result ≡ outside_slot regs.now.slot }
 {
-    let address = registers.pc.wrapping_add(8);
-    write(&mut registers, register, address);
-    registers
+    match regs.slot {
+        None => Ok(()),
+        Some(_) => Err(Exception::ReservedInstruction),
+    }
+}
+
+/// A jump; in a delay slot it is reserved.
+fn jump(regs: &mut Regs, target: u32) -> Result<Request, Exception>
+    ensures { Executes (leads regs.old.slot (to_slot regs.old target)) regs.old regs.new result }
+{
+    test_slot(regs)?;
+    enter_slot(regs, target);
+    Ok(Request::Nothing)
+}
+
+/// A jump that leaves where it returns to in a register; in a delay slot it is reserved.
+fn jump_and_link(regs: &mut Regs, register: Register, target: u32) -> Result<Request, Exception>
+    ensures { Executes (leads regs.old.slot (to_slot (linked regs.old register) target)) regs.old regs.new result }
+{
+    test_slot(regs)?;
+    link(regs, register);
+    enter_slot(regs, target);
+    Ok(Request::Nothing)
+}
+
+/// A branch; in a delay slot it is reserved.
+fn branch(regs: &mut Regs, taken: bool, untaken: Untaken, offset: u16) -> Result<Request, Exception>
+    ensures { Executes (leads regs.old.slot (branched taken untaken offset regs.old)) regs.old regs.new result }
+{
+    test_slot(regs)?;
+    go_on(regs, taken, untaken, offset);
+    Ok(Request::Nothing)
+}
+
+/// A branch that leaves where it returns to in register 31, taken or not; in a delay slot it is reserved.
+fn branch_and_link(
+    regs: &mut Regs,
+    taken: bool,
+    untaken: Untaken,
+    offset: u16,
+) -> Result<Request, Exception>
+    ensures { Executes (leads regs.old.slot (branched taken untaken offset (linked regs.old 31))) regs.old regs.new result }
+{
+    test_slot(regs)?;
+    link(regs, return_register());
+    go_on(regs, taken, untaken, offset);
+    Ok(Request::Nothing)
 }
 
 /// A jump's target, in the region of the delay slot.
@@ -116,15 +150,14 @@ fn half(regs: &Regs, half: Half) -> u32
     }
 }
 
-/// The registers with another HI or LO.
-fn with_half(mut registers: Regs, half: Half, value: u32) -> Regs
-    ensures { result ≡ half_replaced half registers value }
+/// Replaces HI or LO.
+fn set_half(regs: &mut Regs, half: Half, value: u32)
+    ensures { regs.new ≡ with_half half regs.old value }
 {
     match half {
-        Half::Hi => registers.hi = value,
-        Half::Lo => registers.lo = value,
+        Half::Hi => regs.hi = value,
+        Half::Lo => regs.lo = value,
     }
-    registers
 }
 
 /// Register 31, in which a call leaves where it returns to.
@@ -134,48 +167,59 @@ fn return_register() -> Register
     Register::new(31)
 }
 
-/// The registers after an instruction and what it asks of memory, or the exception that it raises.
-pub fn execute(instr: &Instr, regs: &Regs) -> Result<Effect, Exception>
-    ensures { result ≡ effect instr.now regs.now }
+/// Does an instruction on the registers, and answers what it asks of memory; or the exception that it raises, and the
+/// registers stay.
+pub fn execute(instr: &Instr, regs: &mut Regs) -> Result<Request, Exception>
+    ensures { Executes (effect instr.now regs.old) regs.old regs.new result }
 {
     match *instr {
-        Instr::Shift { op, rt, rd, amount } => put(
-            AluOut::Value(shift(op, read(regs, rt), amount.value())),
-            rd,
-            regs,
-        ),
-        Instr::ShiftVariable { op, rs, rt, rd } => put(
-            AluOut::Value(shift(op, read(regs, rt), read(regs, rs))),
-            rd,
-            regs,
-        ),
-        Instr::JumpRegister { rs } => lead(regs.slot, jump(*regs, read(regs, rs))),
-        Instr::JumpAndLinkRegister { rs, rd } => lead(
-            regs.slot,
-            jump(linked(*regs, rd), read(regs, rs)),
-        ),
+        Instr::Shift { op, rt, rd, amount } => {
+            let value = shift(op, read(regs, rt), amount.value());
+            put(regs, rd, AluOut::Value(value))
+        }
+        Instr::ShiftVariable { op, rs, rt, rd } => {
+            let value = shift(op, read(regs, rt), read(regs, rs));
+            put(regs, rd, AluOut::Value(value))
+        }
+        Instr::JumpRegister { rs } => {
+            let target = read(regs, rs);
+            jump(regs, target)
+        }
+        Instr::JumpAndLinkRegister { rs, rd } => {
+            let target = read(regs, rs);
+            jump_and_link(regs, rd, target)
+        }
         Instr::SystemCall { code: _ } => Err(Exception::SystemCall),
         Instr::Break { code: _ } => Err(Exception::Breakpoint),
-        Instr::Sync => finish(*regs, Request::Nothing),
-        Instr::MoveFrom { half: which, rd } => put(AluOut::Value(half(regs, which)), rd, regs),
-        Instr::MoveTo { half: which, rs } => finish(
-            with_half(*regs, which, read(regs, rs)),
-            Request::Nothing,
-        ),
+        Instr::Sync => finish(regs, Request::Nothing),
+        Instr::MoveFrom { half: which, rd } => {
+            let value = half(regs, which);
+            put(regs, rd, AluOut::Value(value))
+        }
+        Instr::MoveTo { half: which, rs } => {
+            let value = read(regs, rs);
+            set_half(regs, which, value);
+            finish(regs, Request::Nothing)
+        }
         Instr::MulDiv { op, rs, rt } => {
             let product = mul_div(op, read(regs, rs), read(regs, rt));
-            let mut registers = *regs;
-            registers.hi = product.hi;
-            registers.lo = product.lo;
-            finish(registers, Request::Nothing)
+            regs.hi = product.hi;
+            regs.lo = product.lo;
+            finish(regs, Request::Nothing)
         }
-        Instr::Alu { op, rs, rt, rd } => put(alu(op, read(regs, rs), read(regs, rt)), rd, regs),
+        Instr::Alu { op, rs, rt, rd } => {
+            let out = alu(op, read(regs, rs), read(regs, rt));
+            put(regs, rd, out)
+        }
         Instr::Trap {
             cond,
             rs,
             rt,
             code: _,
-        } => trap(holds(cond, read(regs, rs), read(regs, rt)), regs),
+        } => {
+            let raised = holds(cond, read(regs, rs), read(regs, rt));
+            trap(regs, raised)
+        }
         Instr::Branch {
             cond,
             untaken,
@@ -184,7 +228,7 @@ pub fn execute(instr: &Instr, regs: &Regs) -> Result<Effect, Exception>
             offset,
         } => {
             let taken = holds(cond, read(regs, rs), read(regs, rt));
-            lead(regs.slot, branch(taken, untaken, offset, *regs))
+            branch(regs, taken, untaken, offset)
         }
         Instr::BranchZero {
             cond,
@@ -193,7 +237,7 @@ pub fn execute(instr: &Instr, regs: &Regs) -> Result<Effect, Exception>
             offset,
         } => {
             let taken = holds(cond, read(regs, rs), 0);
-            lead(regs.slot, branch(taken, untaken, offset, *regs))
+            branch(regs, taken, untaken, offset)
         }
         Instr::BranchZeroAndLink {
             cond,
@@ -202,31 +246,37 @@ pub fn execute(instr: &Instr, regs: &Regs) -> Result<Effect, Exception>
             offset,
         } => {
             let taken = holds(cond, read(regs, rs), 0);
-            lead(
-                regs.slot,
-                branch(taken, untaken, offset, linked(*regs, return_register())),
-            )
+            branch_and_link(regs, taken, untaken, offset)
         }
         Instr::TrapImmediate {
             cond,
             rs,
             immediate,
-        } => trap(holds(cond, read(regs, rs), sign_extend(immediate)), regs),
-        Instr::Jump { index } => lead(regs.slot, jump(*regs, jump_target(regs, index))),
-        Instr::JumpAndLink { index } => lead(
-            regs.slot,
-            jump(linked(*regs, return_register()), jump_target(regs, index)),
-        ),
+        } => {
+            let raised = holds(cond, read(regs, rs), sign_extend(immediate));
+            trap(regs, raised)
+        }
+        Instr::Jump { index } => {
+            let target = jump_target(regs, index);
+            jump(regs, target)
+        }
+        Instr::JumpAndLink { index } => {
+            let target = jump_target(regs, index);
+            jump_and_link(regs, return_register(), target)
+        }
         Instr::AluImmediate {
             op,
             rs,
             rt,
             immediate,
-        } => put(alu(op, read(regs, rs), operand(op, immediate)), rt, regs),
+        } => {
+            let out = alu(op, read(regs, rs), operand(op, immediate));
+            put(regs, rt, out)
+        }
         Instr::LoadUpper { rt, immediate } => put(
-            AluOut::Value(u32::from(immediate) << 16),
-            rt,
             regs,
+            rt,
+            AluOut::Value(u32::from(immediate) << 16),
         ),
         Instr::Load {
             kind,
@@ -239,7 +289,7 @@ pub fn execute(instr: &Instr, regs: &Regs) -> Result<Effect, Exception>
                 address: address(regs, base, offset),
                 target: rt,
             };
-            finish(*regs, request)
+            finish(regs, request)
         }
         Instr::Store {
             kind,
@@ -252,14 +302,14 @@ pub fn execute(instr: &Instr, regs: &Regs) -> Result<Effect, Exception>
                 address: address(regs, base, offset),
                 value: read(regs, rt),
             };
-            finish(*regs, request)
+            finish(regs, request)
         }
         Instr::LoadLinked { base, rt, offset } => {
             let request = Request::LoadLinked {
                 address: address(regs, base, offset),
                 target: rt,
             };
-            finish(*regs, request)
+            finish(regs, request)
         }
         Instr::StoreConditional { base, rt, offset } => {
             let request = Request::StoreConditional {
@@ -267,7 +317,7 @@ pub fn execute(instr: &Instr, regs: &Regs) -> Result<Effect, Exception>
                 value: read(regs, rt),
                 target: rt,
             };
-            finish(*regs, request)
+            finish(regs, request)
         }
         Instr::MoveFromCp0 { .. } | Instr::MoveToCp0 { .. } | Instr::Cp0(_) | Instr::Reserved(_) =>
             Err(Exception::ReservedInstruction),

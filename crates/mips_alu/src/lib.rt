@@ -8,7 +8,7 @@ mod registers;
 
 pub use arithmetic::{AluOut, alu, holds, mul_div, shift};
 pub use base_words::{
-    AluOp, Cond, Effect, HiLo, Instr, LoadKind, MulOp, Regs, Request, ShiftOp, StoreKind,
+    AluOp, Cond, HiLo, Instr, LoadKind, MulOp, Regs, Request, ShiftOp, StoreKind,
 };
 pub use execution::execute;
 pub use merging::{

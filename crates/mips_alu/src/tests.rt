@@ -186,16 +186,14 @@ fn instructions_lead_on(rt: HostRuntime) {
         rt: Register::new(2),
         offset: 0xFFFC,
     };
-    let Ok(effect) = execute(&store, &regs) else {
-        panic!(rt; "a store asks, and raises nothing");
-    };
+    let mut after = regs;
     let asked = Request::Store {
         kind: StoreKind::Word,
         address: 0xD000_0000,
         value: 7,
     };
-    assert_eq!(rt; effect.request, asked);
-    assert_eq!(rt; effect.registers.pc, 0xC000_0100, "a delay slot leads on");
+    assert_eq!(rt; execute(&store, &mut after), Ok(asked));
+    assert_eq!(rt; after.pc, 0xC000_0100, "a delay slot leads on");
     let branch = Instr::Branch {
         cond: Cond::NotEqual,
         untaken: Untaken::PastSlot,
@@ -203,28 +201,24 @@ fn instructions_lead_on(rt: HostRuntime) {
         rt: Register::new(2),
         offset: 0xFFFF,
     };
+    after = regs;
     assert_eq!(rt;
-        execute(&branch, &regs),
+        execute(&branch, &mut after),
         Err(Exception::ReservedInstruction),
         "a branch in a delay slot"
     );
+    assert_eq!(rt; after, regs, "and nothing else happens");
     regs.slot = None;
-    let Ok(effect) = execute(&branch, &regs) else {
-        panic!(rt; "a branch is taken");
-    };
-    assert_eq!(rt; effect.registers.pc, 0xC000_0004);
-    assert_eq!(rt; effect.registers.slot, Some(0xC000_0000));
+    after = regs;
+    assert_eq!(rt; execute(&branch, &mut after), Ok(Request::Nothing));
+    assert_eq!(rt; after.pc, 0xC000_0004, "a branch is taken");
+    assert_eq!(rt; after.slot, Some(0xC000_0000));
     regs.general[2] = 0xD000_0004;
-    let Ok(effect) = execute(&branch, &regs) else {
-        panic!(rt; "a likely branch isn't taken");
-    };
+    after = regs;
+    assert_eq!(rt; execute(&branch, &mut after), Ok(Request::Nothing));
+    assert_eq!(rt; after.pc, 0xC000_0008, "its delay slot is passed over");
     assert_eq!(rt;
-        effect.registers.pc,
-        0xC000_0008,
-        "its delay slot is passed over"
-    );
-    assert_eq!(rt;
-        execute(&Instr::Reserved(1), &START),
+        execute(&Instr::Reserved(1), &mut after),
         Err(Exception::ReservedInstruction)
     );
     assert_eq!(rt;
@@ -233,7 +227,7 @@ fn instructions_lead_on(rt: HostRuntime) {
                 unit: 1,
                 word: 0x4400_0000
             },
-            &START
+            &mut after
         ),
         Err(Exception::CoprocessorUnusable(1))
     );
