@@ -6,7 +6,6 @@ use Rattle.base_words.specs.declared.regs.Regs.{Regs}
 use Rattle.base_words.specs.declared.exception.Exception.{Exception}
 use Rattle.base_words.specs.declared.exception.Exception.TheVariants as raised
 use Rattle.base_words.specs.declared.effect.HiLo.{HiLo}
-use Rattle.base_words.specs.declared.effect.Effect.{Effect}
 use Rattle.base_words.specs.declared.effect.Request.{Request}
 use Rattle.base_words.specs.declared.effect.Request.TheVariants as asks
 use Rattle.base_words.specs.declared.instr.AluOp.{AluOp}
@@ -19,6 +18,11 @@ use Rattle.base_words.specs.declared.instr.Instr.{Instr}
 use Rattle.base_words.specs.declared.instr.Instr.TheVariants.{Shift, ShiftVariable, JumpRegister, JumpAndLinkRegister, SystemCall, Break, Sync, MoveFrom, MoveTo, MulDiv, Alu, Trap, Branch, BranchZero, BranchZeroAndLink, TrapImmediate, Jump, JumpAndLink, AluImmediate, LoadUpper, Load, Store, LoadLinked, StoreConditional, MoveFromCp0, MoveToCp0, Cp0, Coprocessor, Reserved}
 use Rattle.base_words.specs.Fields.{sign_extended, sum}
 use Rattle.base_words.specs.Arithmetic.{alu, shift, mul_div, holds}
+
+-- what an instruction leaves in the registers, and what it asks of memory
+pub record Effect : Type 0 where
+  pub registers : Regs
+  pub request : Request
 
 -- a register's value; register 0 reads 0
 abbrev pub register : Regs → ℕ → ℕ

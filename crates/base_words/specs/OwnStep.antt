@@ -1,7 +1,6 @@
 -- A guest's private machine, and one step of a virtual processor as the guest sees it.
 use Rattle.std.specs.Prelude.{ℕ, ◌-◌, ◌/◌, ◌%◌, ◌==◌, List, [], ◌∷◌, ◌++◌, map, Bool, true, false, Option, Some, None, Result, Ok, Err, slice_index_or, slice_set, if◌then◌else◌, replicate}
 use Rattle.base_words.specs.declared.regs.Regs.{Regs}
-use Rattle.base_words.specs.declared.effect.Effect.{Effect}
 use Rattle.base_words.specs.declared.effect.Request.{Request}
 use Rattle.base_words.specs.declared.effect.Request.TheVariants as asks
 use Rattle.base_words.specs.declared.exception.Use.TheVariants.{Fetch, Load, Store}
@@ -18,7 +17,7 @@ use Rattle.base_words.specs.Counts.{counted}
 use Rattle.base_words.specs.Memory.{word_at, with_word}
 use Rattle.base_words.specs.Merging.{loaded_value, stored_word, load_unit, store_unit}
 use Rattle.base_words.specs.OpcodeMap.{decoded}
-use Rattle.base_words.specs.Instruction.{register, with_register, effect}
+use Rattle.base_words.specs.Instruction.{Effect, register, with_register, effect}
 use Rattle.base_words.specs.Place.{AddressSpace, place}
 use Rattle.base_words.specs.Devices.{device_register}
 

@@ -1,5 +1,5 @@
-//! What an instruction does to the registers, and what it asks of memory.
-use crate::{LoadKind, Register, Regs, StoreKind};
+//! HI and LO, and what an instruction asks of memory.
+use crate::{LoadKind, Register, StoreKind};
 
 /// HI and LO, as a product or a quotient makes them.
 #[derive(Clone, Copy, Debug, PartialEq, Eq)]
@@ -35,11 +35,4 @@ pub enum Request {
         value: u32,
         target: Register,
     },
-}
-
-/// What an instruction leaves in the registers, and what it asks of memory.
-#[derive(Clone, Copy, Debug, PartialEq, Eq)]
-pub struct Effect {
-    pub registers: Regs,
-    pub request: Request,
 }

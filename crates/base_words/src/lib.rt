@@ -22,7 +22,7 @@ pub use coprocessor::{
     Cause, Context, Cp0Register, Cp0Registers, EntryHi, EntryLo, EntryNumber, Index, Mode,
     PagePair, Pending, Status,
 };
-pub use effect::{Effect, HiLo, Request};
+pub use effect::{HiLo, Request};
 pub use events::{End, Event, OwnEvent};
 pub use exception::{Exception, Use};
 pub use frame::{Frame, FrameList, Shape, SharedFrame};

@@ -3,8 +3,8 @@ use Rattle.std.specs.Prelude.{◌≡◌, ℕ, Option, Some, None, Result, Ok, Er
 use Rattle.base_words.specs.declared.regs.Regs.{Regs}
 use Rattle.base_words.specs.declared.exception.Exception.{Exception}
 use Rattle.base_words.specs.declared.exception.Exception.TheVariants.{ReservedInstruction}
-use Rattle.base_words.specs.declared.effect.Effect.{Effect}
 use Rattle.base_words.specs.declared.effect.Request.{Request}
+use Rattle.base_words.specs.Instruction.{Effect}
 
 -- the registers are the effect's, or stay where it raises an exception
 abbrev pub Executes : Result Effect Exception → Regs → Regs → Result Request Exception → Type 0
