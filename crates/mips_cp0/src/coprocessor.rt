@@ -40,7 +40,7 @@ fn keep_restart(registers: &mut Cp0Registers, pc: u32, slot: bool)
     }
 }
 
-/// What an exception tells.
+/// Keeps what an exception tells: CE and ExcCode, and the address where it has one.
 fn keep_details(registers: &mut Cp0Registers, told: Details)
     ensures { registers.new ≡ with_details told registers.old }
 {
