@@ -1,4 +1,3 @@
 pub mod WordLemmas
-mod WorkedRuns
 mod WorkedExceptions
 mod WorkedPlaces

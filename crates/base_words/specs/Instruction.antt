@@ -1,6 +1,5 @@
 -- What an instruction does (MIPS R4000 User's Manual, appendix A): the registers afterwards and what it asks of
--- memory, or the exception that it raises. It never looks at memory.
--- Coprocessor 0 isn't built yet: its instructions are reserved.
+-- memory or of coprocessor 0, or the exception that it raises. It never looks at either, nor at the mode.
 use Rattle.std.specs.Prelude.{ℕ, ◌+◌, ◌*◌, ◌/◌, ◌%◌, ◌^◌, ◌==◌, Bool, true, false, if◌then◌else◌, Option, Some, None, Result, Ok, Err, unwrap_or, slice_index, slice_set}
 use Rattle.base_words.specs.declared.regs.Regs.{Regs}
 use Rattle.base_words.specs.declared.exception.Exception.{Exception}
@@ -10,6 +9,8 @@ use Rattle.base_words.specs.declared.effect.Request.{Request}
 use Rattle.base_words.specs.declared.effect.Request.TheVariants as asks
 use Rattle.base_words.specs.declared.instr.AluOp.{AluOp}
 use Rattle.base_words.specs.declared.instr.AluOp.TheVariants.{Add, AddUnsigned, Subtract, SubtractUnsigned, And, Or, Xor, Nor, SetLess, SetLessUnsigned}
+use Rattle.base_words.specs.declared.instr.Cp0Op.{Cp0Op}
+use Rattle.base_words.specs.declared.instr.Cp0Op.TheVariants.{TlbRead, TlbWriteIndexed, TlbWriteRandom, TlbProbe, ExceptionReturn}
 use Rattle.base_words.specs.declared.instr.Half.{Half}
 use Rattle.base_words.specs.declared.instr.Half.TheVariants.{Hi, Lo}
 use Rattle.base_words.specs.declared.instr.Untaken.{Untaken}
@@ -19,7 +20,7 @@ use Rattle.base_words.specs.declared.instr.Instr.TheVariants.{Shift, ShiftVariab
 use Rattle.base_words.specs.Fields.{sign_extended, sum}
 use Rattle.base_words.specs.Arithmetic.{alu, shift, mul_div, holds}
 
--- what an instruction leaves in the registers, and what it asks of memory
+-- what an instruction leaves in the registers, and what it asks of memory or of coprocessor 0
 pub record Effect : Type 0 where
   pub registers : Regs
   pub request : Request
@@ -94,6 +95,19 @@ jump_target regs index = sum regs.pc 4 / 2 ^ 28 * 2 ^ 28 + index * 4
 abbrev pub address : Regs → ℕ → ℕ → ℕ
 address regs base offset = sum (register regs base) (sign_extended offset)
 
+-- the return from an exception leads on by itself; in a delay slot it is reserved
+abbrev pub returns : Option ℕ → Regs → Result Effect Exception
+returns None regs = Ok (record { registers = regs; request = asks.System ExceptionReturn })
+returns (Some target) regs = Err raised.ReservedInstruction
+
+-- an instruction of the TLB is followed by the next one
+abbrev pub system : Cp0Op → Regs → Result Effect Exception
+system TlbRead regs = done regs (asks.System TlbRead)
+system TlbWriteIndexed regs = done regs (asks.System TlbWriteIndexed)
+system TlbWriteRandom regs = done regs (asks.System TlbWriteRandom)
+system TlbProbe regs = done regs (asks.System TlbProbe)
+system ExceptionReturn regs = returns regs.slot regs
+
 abbrev pub half_of_product : Half → Regs → ℕ
 half_of_product Hi regs = regs.hi
 half_of_product Lo regs = regs.lo
@@ -127,8 +141,8 @@ effect (Load kind base rt offset) regs = done regs (asks.Load kind (address regs
 effect (Store kind base rt offset) regs = done regs (asks.Store kind (address regs base offset) (register regs rt))
 effect (LoadLinked base rt offset) regs = done regs (asks.LoadLinked (address regs base offset) rt)
 effect (StoreConditional base rt offset) regs = done regs (asks.StoreConditional (address regs base offset) (register regs rt) rt)
-effect (MoveFromCp0 rt rd) regs = Err raised.ReservedInstruction
-effect (MoveToCp0 rt rd) regs = Err raised.ReservedInstruction
-effect (Cp0 op) regs = Err raised.ReservedInstruction
+effect (MoveFromCp0 rt rd) regs = done regs (asks.ReadCp0 rd rt)
+effect (MoveToCp0 rt rd) regs = done regs (asks.WriteCp0 rd (register regs rt))
+effect (Cp0 op) regs = system op regs
 effect (Coprocessor unit word) regs = Err (raised.CoprocessorUnusable unit)
 effect (Reserved word) regs = Err raised.ReservedInstruction

@@ -2,15 +2,13 @@ pub mod Arithmetic
 pub mod Bits
 pub mod Coprocessor
 pub mod Counts
-pub mod Devices
 pub mod Exception
 pub mod Fields
+pub mod Halves
 pub mod Instruction
 pub mod Membership
 pub mod Memory
 pub mod Merging
 pub mod OpcodeMap
-pub mod OwnStep
 pub mod Place
-pub mod PrivateRun
 pub mod Tlb

@@ -1,5 +1,5 @@
-//! HI and LO, and what an instruction asks of memory.
-use crate::{LoadKind, Register, StoreKind};
+//! HI and LO, and what an instruction asks of memory or of coprocessor 0.
+use crate::{Cp0Op, LoadKind, Register, StoreKind};
 
 /// HI and LO, as a product or a quotient makes them.
 #[derive(Clone, Copy, Debug, PartialEq, Eq)]
@@ -8,7 +8,7 @@ pub struct HiLo {
     pub lo: u32,
 }
 
-/// What an instruction asks of memory.
+/// What an instruction asks of memory or of coprocessor 0.
 #[derive(Clone, Copy, Debug, PartialEq, Eq)]
 pub enum Request {
     Nothing,
@@ -35,4 +35,16 @@ pub enum Request {
         value: u32,
         target: Register,
     },
+    /// A read of the register of coprocessor 0 of this number into a register.
+    ReadCp0 {
+        number: Register,
+        target: Register,
+    },
+    /// A write of a register's value to the register of coprocessor 0 of this number.
+    WriteCp0 {
+        number: Register,
+        value: u32,
+    },
+    /// An instruction of the TLB, or the return from an exception.
+    System(Cp0Op),
 }

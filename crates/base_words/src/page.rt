@@ -32,7 +32,8 @@ pub type Blocks = PageList;
 impl Page {
     /// A page of zeros.
     pub fn zeroed(alloc: Global) -> Result<Box<Page>, AllocError>
-        ensures { IfOk result (λ page. page.value ≡ replicate 4096 0) }
+        ensures zeros { IfOk result (λ page. page.value ≡ replicate 4096 0) }
+        ensures whole { IfOk result (λ page. length page.value ≡ 4096) }
     {
         Ok(Box::new(alloc, Page { bytes: [0; 4096] })?)
     }
@@ -49,7 +50,8 @@ impl Page {
     pub fn word_at(&self, offset: u32) -> u32
         requires within { offset < 4096 }
         requires aligned { offset % 4 ≡ 0 }
-        ensures { result ≡ word_at self.now offset }
+        ensures word { result ≡ word_at self.now offset }
+        ensures whole { length self.now ≡ 4096 }
     {
         read_word(&self.bytes, offset as usize)
     }
@@ -58,7 +60,9 @@ impl Page {
     pub fn set_word(&mut self, offset: u32, word: u32)
         requires within { offset < 4096 }
         requires aligned { offset % 4 ≡ 0 }
-        ensures { self.new ≡ with_word self.old offset word }
+        ensures written { self.new ≡ with_word self.old offset word }
+        ensures whole { length self.old ≡ 4096 }
+        ensures still_whole { length self.new ≡ 4096 }
     {
         write_word(&mut self.bytes, offset as usize, word);
     }
@@ -66,7 +70,8 @@ impl Page {
     /// The byte at an offset.
     pub fn byte_at(&self, offset: u32) -> u8
         requires { offset < 4096 }
-        ensures { result ≡ slice_index self.now offset }
+        ensures byte { result ≡ slice_index self.now offset }
+        ensures whole { length self.now ≡ 4096 }
     {
         self.bytes[offset as usize]
     }
@@ -74,7 +79,9 @@ impl Page {
     /// Replaces the byte at an offset.
     pub fn set_byte(&mut self, offset: u32, byte: u8)
         requires { offset < 4096 }
-        ensures { self.new ≡ slice_set self.old offset byte }
+        ensures written { self.new ≡ slice_set self.old offset byte }
+        ensures whole { length self.old ≡ 4096 }
+        ensures still_whole { length self.new ≡ 4096 }
     {
         self.bytes[offset as usize] = byte;
     }
@@ -82,7 +89,9 @@ impl Page {
     /// Replaces the bytes from an offset on by others.
     pub fn fill_from(&mut self, offset: u32, bytes: &[u8])
         requires { offset + length bytes.now ≤ 4096 }
-        ensures { self.new ≡ take offset self.old ++ (bytes.now ++ drop (offset + length bytes.now) self.old) }
+        ensures filled { self.new ≡ take offset self.old ++ (bytes.now ++ drop (offset + length bytes.now) self.old) }
+        ensures whole { length self.old ≡ 4096 }
+        ensures still_whole { length self.new ≡ 4096 }
     {
         let start = offset as usize;
         let end = start + bytes.len();
@@ -91,14 +100,16 @@ impl Page {
 
     /// Makes this page's bytes those of another.
     pub fn copy_from(&mut self, other: &Page)
-        ensures { self.new ≡ other.now }
+        ensures copied { self.new ≡ other.now }
+        ensures whole { length self.new ≡ 4096 }
     {
         self.bytes.copy_from_slice(&other.bytes);
     }
 
     /// Whether the two pages have the same bytes.
     pub fn equals(&self, other: &Page) -> bool
-        ensures { IsTrue result ↔ (self.now ≡ other.now) }
+        ensures equal { IsTrue result ↔ (self.now ≡ other.now) }
+        ensures whole { (length self.now ≡ 4096) × (length other.now ≡ 4096) }
     {
         self.bytes == other.bytes
     }

@@ -4,16 +4,7 @@
 #[derive(Clone, Copy, Debug, PartialEq, Eq)]
 pub enum Place {
     /// An offset in bytes into the guest's memory.
-    Memory(u32),
+    Memory(u64),
     /// An offset in bytes into the device page.
     Device(u32),
-}
-
-/// A register of the device page.
-#[derive(Clone, Copy, Debug, PartialEq, Eq)]
-pub enum DeviceRegister {
-    /// A store puts its low byte on the console.
-    Console,
-    /// A store halts the virtual processor that makes it.
-    Halt,
 }

@@ -1,16 +1,17 @@
 -- Holds as a bag, and sums over views.
-use Rattle.std.proofs.Common.{◌≡◌, ◌≢◌, ℕ, zero, suc, ◌+◌, ◌<◌, ◌≤◌, ◌==◌, if◌then◌else◌, Bool, true, false, List, [], ◌∷◌, ◌++◌, length, set, get_or, refl, sym, ap, ◌∙◌, subst, arith, zero-add, add_comm, eq-eqb, ne_eqb, get_or-set_same, get_or-set_other}
-use Rattle.std.specs.Prelude.{Contains, slice_index_or}
+use Rattle.std.proofs.Common.{◌≡◌, ◌≢◌, ℕ, zero, suc, ◌+◌, ◌<◌, ◌≤◌, ◌==◌, if◌then◌else◌, Bool, true, false, List, [], ◌∷◌, ◌++◌, length, set, get_or, refl, sym, ap, ◌∙◌, subst, ⊎_elim, arith, zero-add, add_comm, eq-eqb, ne_eqb, get_or-set_same, get_or-set_other}
+use Rattle.std.proofs.lemmas.List.Elements.{Contains-append_left, Contains-append_right, Contains-append_cases}
+use Rattle.std.specs.Prelude.{Contains, All, slice_index_or}
 use mathlib.Core.Option.{some-ne-none, some-injective}
 use mathlib.Core.Logic.{dite}
 use native.Mathlib.Decide.{ℕ_discrete}
 use Rattle.frame_words.specs.FrameWords.{generation}
-use Rattle.frame_words.specs.Views.{hold, times, without}
+use Rattle.frame_words.specs.Views.{hold, times, without, OneGeneration}
 use Rattle.frame_words.specs.FrameRights.{total, AreUnder, IsView}
 use Rattle.frame_words.specs.declared.view.Hold.{Hold}
 use Rattle.frame_words.specs.declared.view.View.{View}
 
-abbrev one_if : Bool → ℕ
+abbrev pub one_if : Bool → ℕ
 one_if b = if b then 1 else 0
 
 -- a word stands one time more among holds that begin with it
@@ -98,3 +99,32 @@ contains_held i g hs c = at c.0 hs c.1 c.2
     at k [] within is = absurd (omega arith)
     at zero (h ∷ hs) within is = subst (λ (x : Hold). 0 < times i (x ∷ hs)) (sym is) (holds_first i g hs)
     at (suc k) (h ∷ hs) within is = let more = at k hs (omega arith) is in omega arith
+
+-- holds that are all under their words' generations hold no word under two
+pub one_under : (ws : List ℕ) (hs : List Hold) → AreUnder ws hs → OneGeneration hs
+one_under ws hs u = λ word one other a b. under_at ws hs a.0 (hold word one) u a.1 a.2 ∙ sym (under_at ws hs b.0 (hold word other) u b.1 b.2)
+
+pub one_among : (hs part : List Hold) → All (Contains hs) part → OneGeneration hs → OneGeneration part
+one_among hs part among one = λ word a b x y. one word a b (within (hold word a) x) (within (hold word b) y)
+  where
+    within : (x : Hold) → Contains part x → Contains hs x
+    within x c = subst (Contains hs) c.2 (among c.0 x c.1)
+
+-- what is left without a hold was there
+pub contains_without : (i : ℕ) (hs : List Hold) (x : Hold) → Contains (without i hs) x → Contains hs x
+contains_without i [] x c = c
+contains_without i (h ∷ hs) x c = by_word (λ b. Contains (if b then hs else h ∷ without i hs) x → Contains (h ∷ hs) x) h.word i
+    (λ _ there. Contains-append_right (h ∷ []) hs x there)
+    (λ _ there. ⊎_elim
+    (λ (here : Contains (h ∷ []) x). Contains-append_left (h ∷ []) hs x here)
+    (λ (later : Contains (without i hs) x). Contains-append_right (h ∷ []) hs x (contains_without i hs x later))
+    (Contains-append_cases (h ∷ []) (without i hs) x there))
+    c
+
+-- a word that is held is held under some generation
+pub held_contains : (i : ℕ) (hs : List Hold) → 0 < times i hs → (g : ℕ) × Contains hs (hold i g)
+held_contains i [] any = absurd (omega arith)
+held_contains i (h ∷ hs) any = by_word (λ b. 0 < one_if b + times i hs → (g : ℕ) × Contains (h ∷ hs) (hold i g)) h.word i
+    (λ e _. (h.generation, (0, omega arith, ap (λ k. hold k h.generation) e)))
+    (λ ne some. let more = held_contains i hs (omega arith) in (more.0, (suc more.1.0, (let l = more.1.1 in omega arith), more.1.2)))
+    any

@@ -3,7 +3,8 @@ pub mod Bags
 pub mod Turns
 pub mod Moves
 pub mod Parts
+pub mod NamedLemmas
 pub mod Opened
 pub mod TailLemmas
-pub mod Gone
+pub mod Told
 pub mod Begins

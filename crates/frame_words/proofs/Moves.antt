@@ -1,11 +1,11 @@
 -- Each kind of step keeps the rights rule.
-use Rattle.std.proofs.Common.{◌≡◌, ◌≢◌, ℕ, ◌+◌, ◌-◌, ◌%◌, ◌⊎◌, ⊎_elim, ◌<◌, ◌≤◌, ◌==◌, if◌then◌else◌, true, List, [], ◌∷◌, length, get_or, refl, sym, ap, ◌∙◌, subst, arith, length-set, get_or-set_same, get_or-set_other}
+use Rattle.std.proofs.Common.{◌≡◌, ◌≢◌, ℕ, ◌+◌, ◌-◌, ◌%◌, ◌⊎◌, ⊎_elim, ◌<◌, ◌≤◌, ◌==◌, if◌then◌else◌, true, List, [], ◌∷◌, length, set, get_or, refl, sym, ap, ◌∙◌, subst, arith, length-set, get_or-set_same, get_or-set_other}
 use Rattle.std.specs.Prelude.{Contains}
 use mathlib.Core.Option.{none}
 use prog.Atomic.{either}
 use Rattle.atomic_table.specs.Table.{State, Act, keeps, step, stepped, Valid, carried_after, Allows}
 use Rattle.frame_words.specs.FrameWords.{count, generation}
-use Rattle.frame_words.specs.Views.{hold, held, without, seeing, holding, dropping}
+use Rattle.frame_words.specs.Views.{hold, held, without, seeing, holding, dropping, OneGeneration}
 use Rattle.frame_words.specs.FrameRights.{total, IsView, FrameRights}
 use Rattle.frame_words.specs.Steps.{Own, Fits, taken, Tells, Loaded, Taken, Added, Given}
 use Rattle.frame_words.specs.declared.view.Look.{Look}
@@ -14,7 +14,7 @@ use Rattle.frame_words.specs.declared.view.StepKind.{StepKind}
 use Rattle.frame_words.specs.declared.view.StepKind.TheVariants.{Load, Share, Borrow}
 use Rattle.frame_words.specs.declared.terms.Terms.{Terms}
 use Rattle.frame_words.proofs.WordLemmas.{count-more, generation-more, count-next, less, count-less, generation-less, count-small}
-use Rattle.frame_words.proofs.Bags.{by_word, times-here, times-else, without_here, without_else, under_without, under_at, under_set, contains_held, total_least}
+use Rattle.frame_words.proofs.Bags.{by_word, times-here, times-else, without_here, without_else, under_without, under_at, under_set, one_under, contains_held, total_least}
 use Rattle.frame_words.proofs.Turns.{Turn, turns}
 
 -- what a view knows of the number at a word
@@ -24,8 +24,12 @@ fits_of t s id i v k at inside range = record {
   least = let a = total_least (held i) s.views id v at in let b = k.counts i inside in omega arith;
   all = λ alone. let b = k.counts i inside in let o = (k.only id v at alone).one in let e : total (held i) s.views ≡ total (held i) (v ∷ []) = ap (total (held i)) o in omega arith;
   known = λ alone. (k.only id v at alone).each i (let e = k.whole in omega arith);
-  agrees = λ under c. sym (under_at s.words v.holds c.0 (hold i under) (k.generations id v at) c.1 c.2);
+  agrees = λ own c. under_at s.words v.holds c.0 (hold i own) (k.generations id v at) c.1 c.2;
 }
+
+-- the view after a step holds no word under two generations
+one_kept : (t : Terms) (s : State (Unit {0}) View) (i n : ℕ) (v w : View) → Turn t s.words i n v w → OneGeneration w.holds
+one_kept t s i n v w turn = one_under (set s.words i n) w.holds turn.under
 
 -- the step changes no word
 idle : (t : Terms) (s : State (Unit {0}) View) (id i : ℕ) (v : View) (ls : List Look) → FrameRights t s → IsView s.views id v → i < t.frames + 8 → Turn t s.words i (get_or s.words i 0) v (record v { looks = ls })
@@ -96,7 +100,8 @@ pub loads : (t : Terms) (slots id : ℕ) (me : Own) (i : ℕ) → i < t.frames +
 loads t slots id me i inside s k homes at range =
     let n = get_or s.words i 0 in
     let w = seeing me.0 Load i n in
-    (w, keeps, tt, turns t s id i n me.0 w k at (idle t s id i me.0 w.looks k at inside), (refl, fits_of t s id i me.0 k at inside range))
+    let turn = idle t s id i me.0 w.looks k at inside in
+    (w, keeps, tt, turns t s id i n me.0 w k at turn, (refl, fits_of t s id i me.0 k at inside range, one_kept t s i n me.0 w turn))
 
 -- a step that tells its view after and the number found
 abbrev Steps : Terms → State (Unit {0}) View → ℕ → Own → ℕ → ℕ → View → Type 0
@@ -111,8 +116,8 @@ exchanges t s id me i old new w k at inside range hit =
     let f = fits_of t s id i me.0 k at inside range in
     let missed = seeing me.0 Load i n in
     by_word (λ b. Steps t s id me i (either b new n) (if b then w else missed)) n old
-    (λ e. (w, keeps, tt, turns t s id i new me.0 w k at (hit e), (refl, f)))
-    (λ ne. (missed, keeps, tt, turns t s id i n me.0 missed k at (idle t s id i me.0 missed.looks k at inside), (refl, f)))
+    (λ e. (w, keeps, tt, turns t s id i new me.0 w k at (hit e), (refl, f, one_kept t s i new me.0 w (hit e))))
+    (λ ne. let turn = idle t s id i me.0 missed.looks k at inside in (missed, keeps, tt, turns t s id i n me.0 missed k at turn, (refl, f, one_kept t s i n me.0 missed turn)))
 
 -- a take, of a frame that is free
 pub takes : (t : Terms) (slots id : ℕ) (me : Own) (i old : ℕ) → i < t.frames + 8 → 8 ≤ i → count old ≡ 0
@@ -177,12 +182,13 @@ gives t slots id me kind i inside has s k homes at range =
     let n = get_or s.words i 0 in
     let w = dropping (seeing me.0 kind i n) i in
     let f = fits_of t s id i me.0 k at inside range in
+    let turn = ends t s id i me.0 w.looks k at inside has in
     let some_held : 0 < count n = let l = f.least in omega arith in (
       w,
       keeps,
       tt,
-      subst (λ x. FrameRights t (stepped s i x id me.1 w keeps)) (sym (less n some_held range)) (turns t s id i (n - 1) me.0 w k at (ends t s id i me.0 w.looks k at inside has)),
-      (refl, f),
+      subst (λ x. FrameRights t (stepped s i x id me.1 w keeps)) (sym (less n some_held range)) (turns t s id i (n - 1) me.0 w k at turn),
+      (refl, f, one_kept t s i (n - 1) me.0 w turn),
     )
 
 -- a load of a cell's word, which tells that it is at most the lend
@@ -192,11 +198,12 @@ loads_loans t slots id me i most cell is s k homes at range =
     let inside : i < t.frames + 8 = omega arith in
     let w = seeing me.0 Load i (get_or s.words i 0) in
     let below = k.lent i cell in
-    (w, keeps, tt, turns t s id i (get_or s.words i 0) me.0 w k at (idle t s id i me.0 w.looks k at inside), ((refl, fits_of t s id i me.0 k at inside range), omega arith))
+    let turn = idle t s id i me.0 w.looks k at inside in
+    (w, keeps, tt, turns t s id i (get_or s.words i 0) me.0 w k at turn, ((refl, fits_of t s id i me.0 k at inside range, one_kept t s i (get_or s.words i 0) me.0 w turn), omega arith))
 
 -- a view that holds the word under this generation finds it so
 pub foreign_of : (v : View) (i n under : ℕ) → Fits v i n → (count n ≡ 0) ⊎ (generation n ≢ under) → Contains v.holds (hold i under) → ⊥
 foreign_of v i n under f gone own = ⊎_elim
     (λ (none : count n ≡ 0). let h = contains_held i under v.holds own in let l = f.least in omega arith)
-    (λ (other : generation n ≢ under). other (f.agrees under own))
+    (λ (other : generation n ≢ under). other (sym (f.agrees under own)))
     gone

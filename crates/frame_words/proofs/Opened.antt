@@ -12,8 +12,8 @@ use Rattle.frame_words.specs.declared.terms.Terms.{Terms}
 abbrev Table : table.Inside → MadeTable
 Table a = record { id = a.table.shared.table_id; terms = a.terms }
 
-abbrev Held : holder.Inside → Holding
-Held h = record { table = h.seat.table_id; view = h.seat.me.0 }
+abbrev pub Held : holder.Inside → Holding
+Held h = record { table = h.seat.table_id; view = h.seat.me.0; agrees = h.agrees }
 
 -- the seat fits the table
 pub fits_table : (a : table.Inside) (h : holder.Inside) (t : MadeTable) (v : Holding) → Table a ≡ t → Held h ≡ v → IsMade t v → h.seat.table_id ≡ a.table.shared.table_id

@@ -1,18 +1,19 @@
 -- A holder that is cut in two, and one that ends in another, keep the rights rule.
-use Rattle.std.proofs.Common.{◌≡◌, ◌≢◌, ℕ, suc, ◌+◌, ◌≤◌, true, false, true≢false, List, [], ◌∷◌, set, sym, ap, ◌∙◌, subst, ⊎_elim, arith}
+use Rattle.std.proofs.Common.{◌≡◌, ◌≢◌, ℕ, suc, ◌+◌, ◌<◌, ◌≤◌, true, false, true≢false, List, [], ◌∷◌, set, sym, ap, ◌∙◌, subst, ⊎_elim, arith}
 use Rattle.std.specs.Prelude.{All, Contains}
+use Rattle.std.proofs.lemmas.List.Elements.{All-contains_itself}
 use mathlib.Core.Logic.{dite}
 use native.Mathlib.Decide.{ℕ_discrete}
 use Rattle.atomic_table.specs.Table.{State, Splits, Joins}
 use Rattle.atomic_table.proofs.Lists.{at_set, at_snoc}
-use Rattle.frame_words.specs.Views.{times, held, without}
+use Rattle.frame_words.specs.Views.{hold, times, held, without, OneGeneration, KeepsRest}
 use Rattle.frame_words.specs.FrameRights.{AreUnder, IsView, FrameRights}
 use Rattle.frame_words.specs.Steps.{without_all, left_with, begun_with, joined}
 use Rattle.frame_words.specs.Splits.{HasHolds}
 use Rattle.frame_words.specs.declared.view.Hold.{Hold}
 use Rattle.frame_words.specs.declared.view.View.{View}
 use Rattle.frame_words.specs.declared.terms.Terms.{Terms}
-use Rattle.frame_words.proofs.Bags.{times-here, times-else, without_here, without_else, under_without, under_at, total_set, total-snoc}
+use Rattle.frame_words.proofs.Bags.{times-here, times-else, without_here, without_else, under_without, under_at, contains_without, held_contains, one_among, total_set, total-snoc}
 use Rattle.frame_words.proofs.Turns.{place_of_one}
 
 -- what is named less the first of it is among the holds without that
@@ -41,6 +42,32 @@ under_part ws hs [] u among = tt
 under_part ws hs (g ∷ gone) u among =
     let here = among 0 g (omega arith) in
     (under_at ws hs here.0 g u here.1 here.2, under_part ws hs gone u (λ k d within. among (suc k) d (omega arith)))
+
+-- what is left of holds is among them
+pub left_among : (gone hs : List Hold) (x : Hold) → Contains (without_all gone hs) x → Contains hs x
+left_among [] hs x c = c
+left_among (g ∷ gone) hs x c = contains_without g.word hs x (left_among gone (without g.word hs) x c)
+
+-- what stays when holds go
+pub keeps_rest : (v : View) (gone : List Hold) (w : View) → OneGeneration v.holds → ((word : ℕ) → times word gone ≤ held word v) → w.holds ≡ without_all gone v.holds → KeepsRest v gone w
+keeps_rest v gone w one few is = record {
+  often = λ word. ap (λ hs. times word hs + times word gone) is ∙ times-without_all gone v.holds word few;
+  among = subst (λ hs. All (Contains v.holds) hs) (sym is) (λ k d within. left_among gone v.holds _ (All-contains_itself (without_all gone v.holds) k d within));
+  stays = λ word under less own. subst (λ hs. Contains hs (hold word under)) (sym is)
+      (let rest = times-without_all gone v.holds word few in
+      let some = held_contains word (without_all gone v.holds) (omega arith) in
+      subst (λ g. Contains (without_all gone v.holds) (hold word g)) (one word some.0 under (left_among gone v.holds (hold word some.0) some.1) own) some.1);
+}
+
+-- the word of one hold stands among it once, and no other
+pub times_least : (i g : ℕ) (v : View) → 0 < held i v → (word : ℕ) → times word (hold i g ∷ []) ≤ held word v
+times_least i g v some word = dite (ℕ_discrete word i)
+    (λ e. subst (λ k. times k (hold i g ∷ []) ≤ held k v) (sym e) (let one = times-here i g [] in omega arith))
+    (λ ne. let none = times-else i word g [] ne in omega arith)
+
+-- neither what stays nor what goes has a word under two generations
+pub one_left : (gone hs : List Hold) → OneGeneration hs → OneGeneration (without_all gone hs)
+one_left gone hs one = one_among hs (without_all gone hs) (λ k d within. left_among gone hs _ (All-contains_itself (without_all gone hs) k d within)) one
 
 -- a view that is not alone is not the only one
 not_alone : (v : View) {X : Type 0} → v.alone ≡ false → v.alone ≡ true → X

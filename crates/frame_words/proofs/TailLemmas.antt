@@ -4,9 +4,9 @@ use Rattle.frame_words.specs.FrameWords.{IsFree}
 use Rattle.frame_words.specs.Views.{look}
 use Rattle.frame_words.specs.Taking.{loaded, Changed, FindsHeld, TookBy}
 use Rattle.frame_words.specs.Borrowing.{FindsLimit, BorrowedBy}
-use Rattle.frame_words.specs.Tails.{looked, AreLoads, GainNothing, borrows_of, repays_of}
+use Rattle.frame_words.specs.Tails.{looked, AreLoads, GainNothing, Omits, IsFirstLook, borrows_of, repays_of}
 use Rattle.frame_words.specs.StepKinds.{is_load, gains, lends, pays}
-use Rattle.frame_words.specs.Refusals.{Refuses, AddsRefusal, IsAtLimit, IsLost}
+use Rattle.frame_words.specs.Refusals.{Refuses, AddsRefusal, ShareRefusal, RefusesShare, AddsShareRefusal, IsAtLimit, IsLost}
 use Rattle.frame_words.specs.declared.view.Look.{Look}
 use Rattle.frame_words.specs.declared.view.View.{View}
 use Rattle.frame_words.specs.declared.view.StepKind.{StepKind}
@@ -94,6 +94,48 @@ Refuses-behind xs ys i r = record {
   refusal = r.refusal;
   parts = ap (λ ls. xs ++ ls) r.parts ∙ sym (append_assoc xs r.before (r.looks ++ r.later));
 }
+
+-- looks that omit a word
+pub Omits-append : (i : ℕ) (xs ys : List Look) → Omits i xs → Omits i ys → Omits i (xs ++ ys)
+Omits-append i [] ys p q = q
+Omits-append i (x ∷ xs) ys p q = (p.0, Omits-append i xs ys p.1 q)
+
+-- a share's refusal stays one among more looks, and behind looks that omit the frame
+pub RefusesShare-longer : (xs ys : List Look) (i under : ℕ) → RefusesShare xs i under → RefusesShare (xs ++ ys) i under
+RefusesShare-longer xs ys i under r = record {
+  before = r.before;
+  looks = r.looks;
+  later = r.later ++ ys;
+  refusal = r.refusal;
+  first = r.first;
+  parts = ap (λ ls. ls ++ ys) r.parts ∙ append_assoc r.before (r.looks ++ r.later) ys ∙ ap (λ ls. r.before ++ ls) (append_assoc r.looks r.later ys);
+}
+
+pub RefusesShare-behind : (xs ys : List Look) (i under : ℕ) → Omits i xs → RefusesShare ys i under → RefusesShare (xs ++ ys) i under
+RefusesShare-behind xs ys i under omits r = record {
+  before = xs ++ r.before;
+  looks = r.looks;
+  later = r.later;
+  refusal = r.refusal;
+  first = Omits-append i xs r.before omits r.first;
+  parts = ap (λ ls. xs ++ ls) r.parts ∙ sym (append_assoc xs r.before (r.looks ++ r.later));
+}
+
+pub AddsShareRefusal-refuses : (v : View) (i under : ℕ) (w : View) (a : AddsShareRefusal v i under w) → RefusesShare a.looks i under
+AddsShareRefusal-refuses v i under w a = record { before = []; looks = a.looks; later = []; refusal = a.refusal; first = tt; parts = sym (append-nil a.looks) }
+
+-- its load is the first look of the tail on the word
+share_load_first : (before looks later tail : List Look) (i under : ℕ) → ShareRefusal i under looks → Omits i before → tail ≡ before ++ (looks ++ later)
+    → (n : ℕ) × IsFirstLook tail (look Load i n)
+share_load_first before [] later tail i under r omits parts = absurd r
+share_load_first before (l ∷ []) later tail i under r omits parts =
+    (l.seen, record { before = before; later = later; omits = omits; parts = parts ∙ ap (λ (x : Look). before ++ x ∷ later) r.0 })
+share_load_first before (l ∷ m ∷ []) later tail i under r omits parts =
+    (l.seen, record { before = before; later = m ∷ later; omits = omits; parts = parts ∙ ap (λ (x : Look). before ++ x ∷ m ∷ later) r.0 })
+share_load_first before (l ∷ m ∷ n ∷ ls) later tail i under r omits parts = absurd r
+
+pub RefusesShare-first : (tail : List Look) (i under : ℕ) → RefusesShare tail i under → (n : ℕ) × IsFirstLook tail (look Load i n)
+RefusesShare-first tail i under r = share_load_first r.before r.looks r.later tail i under r.refusal r.first r.parts
 
 pub IsAtLimit-longer : (xs ys : List Look) (c most seen : ℕ) → IsAtLimit xs c most seen → IsAtLimit (xs ++ ys) c most seen
 IsAtLimit-longer xs ys c most seen r = record {

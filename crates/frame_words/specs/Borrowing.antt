@@ -1,5 +1,5 @@
 -- What each answer of `borrow` says: by the numbers that the call found, in order, and the view after.
-use Rattle.std.specs.Prelude.{◌≡◌, ℕ, ◌<◌, true}
+use Rattle.std.specs.Prelude.{◌≡◌, ℕ, ◌<◌, ◌≤◌, true}
 use Rattle.frame_words.specs.Views.{held, seeing, holding}
 use Rattle.frame_words.specs.Taking.{loaded, Changed}
 use Rattle.frame_words.specs.declared.view.View.{View}
@@ -11,12 +11,14 @@ use Rattle.frame_words.specs.declared.answers.Borrow.TheVariants as lent
 pub record Lends (v : View) (i most : ℕ) (w : View) : Type 0 where
   pub seen : ℕ
   pub below : seen < most
+  pub least : held i v ≤ seen
   pub own : v.alone ≡ true → held i v ≡ seen
   pub after : w ≡ holding (seeing (loaded v i seen) Borrow i seen) i 0
 
 -- the cell lent all that it lends
 pub record FindsLimit (v : View) (i most seen : ℕ) (w : View) : Type 0 where
   pub full : seen ≡ most
+  pub least : held i v ≤ seen
   pub own : v.alone ≡ true → held i v ≡ seen
   pub after : w ≡ loaded v i seen
 

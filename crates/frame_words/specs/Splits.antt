@@ -1,8 +1,8 @@
 -- Which holds and loans go from a holder to a new one.
-use Rattle.std.specs.Prelude.{ℕ, ◌+◌, ◌≤◌, List, [], ◌∷◌, ◌++◌, replicate, All, Contains}
+use Rattle.std.specs.Prelude.{◌≡◌, ℕ, ◌+◌, ◌<◌, ◌≤◌, ◌==◌, if◌then◌else◌, List, [], ◌∷◌, ◌++◌, replicate, slice_index, All, Contains}
 use Rattle.base_words.specs.declared.frame.Frame.{Frame}
 use Rattle.frame_words.specs.FrameWords.{cell_word, frame_word}
-use Rattle.frame_words.specs.Views.{hold, times, held}
+use Rattle.frame_words.specs.Views.{hold, times, held, frame_holds, cell_loans}
 use Rattle.frame_words.specs.declared.view.Hold.{Hold}
 use Rattle.frame_words.specs.declared.view.View.{View}
 
@@ -20,7 +20,19 @@ loans_from cell (n ∷ ns) = replicate n (hold (cell_word cell) 0) ++ loans_from
 abbrev pub named : List Frame → List ℕ → List Hold
 named frames loans = frames_named frames ++ loans_from 0 loans
 
+-- how often a frame is among these
+abbrev pub frame_times : ℕ → List Frame → ℕ
+frame_times frame [] = 0
+frame_times frame (f ∷ fs) = (if f.number.0 == frame then 1 else 0) + frame_times frame fs
+
 -- the view has these holds: each as often as it is named, and under that generation
 pub record HasHolds (view : View) (holds : List Hold) : Type 0 where
   pub often : (word : ℕ) → times word holds ≤ held word view
   pub under : All (Contains view.holds) holds
+
+-- what these frames and loans leave with the first holder, by frames and cells
+pub record KeepsUnnamed (old : View) (frames : List Frame) (loans : List ℕ) (new : View) : Type 0 where
+  pub holds : (frame : ℕ) → frame_holds new frame + frame_times frame frames ≡ frame_holds old frame
+  pub lent : (cell : ℕ) → cell < 8 → cell_loans new cell + slice_index loans cell ≡ cell_loans old cell
+  pub stays : (frame under : ℕ) → frame_times frame frames < frame_holds old frame
+      → Contains old.holds (hold (frame_word frame) under) → Contains new.holds (hold (frame_word frame) under)

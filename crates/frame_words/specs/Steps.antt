@@ -1,8 +1,8 @@
 -- What each kind of step tells the holder that makes it: the number that it found, and the view after.
-use Rattle.std.specs.Prelude.{◌≡◌, ℕ, ◌<◌, ◌≤◌, ◌==◌, true, false, if◌then◌else◌, List, [], ◌∷◌, ◌++◌, slice_index, Contains}
+use Rattle.std.specs.Prelude.{◌≡◌, ℕ, ◌<◌, ◌≤◌, ◌==◌, true, false, if◌then◌else◌, List, [], ◌∷◌, ◌++◌, slice_index}
 use Rattle.atomic_table.specs.Table.{Me, Step}
 use Rattle.frame_words.specs.FrameWords.{count, generation}
-use Rattle.frame_words.specs.Views.{held, hold, look, seeing, holding, dropping, knowing, without}
+use Rattle.frame_words.specs.Views.{held, look, seeing, holding, dropping, knowing, without, HeldUnder, OneGeneration}
 use Rattle.frame_words.specs.declared.view.Hold.{Hold}
 use Rattle.frame_words.specs.declared.view.View.{View}
 use Rattle.frame_words.specs.declared.view.StepKind.{StepKind}
@@ -17,15 +17,15 @@ pub record Fits (v : View) (i n : ℕ) : Type 0 where
   pub least : held i v ≤ count n
   pub all : v.alone ≡ true → held i v ≡ count n
   pub known : v.alone ≡ true → slice_index v.known i ≡ generation n
-  pub agrees : (under : ℕ) → Contains v.holds (hold i under) → generation n ≡ under
+  pub agrees : HeldUnder v i (generation n)
 
 -- the view after a take of the word i, which found this, under this generation
 abbrev pub taken : View → ℕ → ℕ → ℕ → View
 taken v i seen under = knowing (holding (seeing v Take i seen) i under) i under
 
--- a step whose view after is w
+-- a step whose view after is w: it holds no word under two generations
 abbrev pub Tells : View → Step (Unit {0}) → Own → ℕ → Own → Type 0
-Tells w st m n m' = (m' ≡ (w, m.1)) × Fits m.0 st.word n
+Tells w st m n m' = (m' ≡ (w, m.1)) × Fits m.0 st.word n × OneGeneration m'.0.holds
 
 -- an exchange that finds the word that it expects has this view after, and else it was a load
 abbrev pub exchanged : View → Step (Unit {0}) → Own → ℕ → View

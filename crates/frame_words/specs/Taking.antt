@@ -1,7 +1,7 @@
 -- What each answer of `take` says: by the numbers that the call found, in order, and the view after.
-use Rattle.std.specs.Prelude.{◌≡◌, ◌≢◌, ◌⊎◌, ℕ, ◌+◌, ◌<◌, ◌≤◌, true, false, slice_index}
+use Rattle.std.specs.Prelude.{◌≡◌, ◌≢◌, ◌⊎◌, ℕ, ◌+◌, ◌<◌, ◌≤◌, true, false, [], ◌∷◌, slice_index}
 use Rattle.frame_words.specs.FrameWords.{count, generation, IsFree}
-use Rattle.frame_words.specs.Views.{held, seeing, dropping}
+use Rattle.frame_words.specs.Views.{held, hold, seeing, dropping, HeldUnder, KeepsRest}
 use Rattle.frame_words.specs.Steps.{taken}
 use Rattle.frame_words.specs.declared.view.View.{View}
 use Rattle.frame_words.specs.declared.view.StepKind.{StepKind}
@@ -31,6 +31,8 @@ pub record Takes (v : View) (i g : ℕ) (w : View) : Type 0 where
 -- somebody held the frame; where the view is alone, its own holder
 pub record FindsHeld (v : View) (i seen : ℕ) (w : View) : Type 0 where
   pub some : 0 < count seen
+  pub least : held i v ≤ count seen
+  pub agrees : HeldUnder v i (generation seen)
   pub own : v.alone ≡ true → 0 < held i v
   pub after : w ≡ loaded v i seen
 
@@ -50,8 +52,10 @@ TookBy v i (took.Held seen) w =
     ⊎ ((first : ℕ) × IsFree first × Changed v i first seen w)
 TookBy v i (took.Spent seen) w = FindsSpent v i seen w
 
--- the view holds the word once less; the step's kind is this
+-- the view holds the word once less, and all else as before; the step's kind is this
 pub record GivesUp (v : View) (kind : StepKind) (i : ℕ) (w : View) : Type 0 where
   pub seen : ℕ
   pub least : held i v ≤ count seen
+  pub agrees : HeldUnder v i (generation seen)
   pub after : w ≡ dropping (seeing v kind i seen) i
+  pub rest : KeepsRest v (hold i (generation seen) ∷ []) w

@@ -1,5 +1,5 @@
 -- A holder's view, and what one step changes in it.
-use Rattle.std.specs.Prelude.{ℕ, ◌+◌, ◌==◌, if◌then◌else◌, List, [], ◌∷◌, ◌++◌, slice_set}
+use Rattle.std.specs.Prelude.{◌≡◌, ℕ, ◌+◌, ◌<◌, ◌==◌, if◌then◌else◌, List, [], ◌∷◌, ◌++◌, slice_set, All, Contains}
 use Rattle.frame_words.specs.FrameWords.{cell_word, frame_word}
 use Rattle.frame_words.specs.declared.view.Hold.{Hold}
 use Rattle.frame_words.specs.declared.view.Look.{Look}
@@ -29,6 +29,14 @@ frame_holds view frame = held (frame_word frame) view
 abbrev pub cell_loans : View → ℕ → ℕ
 cell_loans view cell = held (cell_word cell) view
 
+-- each hold of the word that the view has is under this generation
+abbrev pub HeldUnder : View → ℕ → ℕ → Type 0
+HeldUnder view word under = (own : ℕ) → Contains view.holds (hold word own) → own ≡ under
+
+-- no word is held under two generations
+abbrev pub OneGeneration : List Hold → Type 0
+OneGeneration holds = (word one other : ℕ) → Contains holds (hold word one) → Contains holds (hold word other) → one ≡ other
+
 -- the holds with one hold of a word less
 abbrev pub without : ℕ → List Hold → List Hold
 without word [] = []
@@ -49,3 +57,11 @@ dropping view word = record view { holds = without word view.holds }
 -- the view that knows a word's new generation
 abbrev pub knowing : View → ℕ → ℕ → View
 knowing view word under = record view { known = slice_set view.known word under }
+
+-- what stays in a view when these holds go: each word as often as it isn't among them, no hold that wasn't there,
+-- and each hold of a word that is among them less often than it was held
+pub record KeepsRest (old : View) (gone : List Hold) (new : View) : Type 0 where
+  pub often : (word : ℕ) → held word new + times word gone ≡ held word old
+  pub among : All (Contains old.holds) new.holds
+  pub stays : (word under : ℕ) → times word gone < held word old
+      → Contains old.holds (hold word under) → Contains new.holds (hold word under)

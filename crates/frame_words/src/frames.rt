@@ -5,6 +5,7 @@ ghost use Rattle.frame_words.specs.Views.{frame_holds};
 ghost use Rattle.frame_words.specs.Holders.{IsMade};
 ghost use Rattle.frame_words.specs.Taking.{TookBy, GivesUp};
 ghost use Rattle.frame_words.specs.Sharing.{SharedBy};
+ghost use Rattle.frame_words.specs.Refusals.{ShareAdds};
 ghost use Rattle.frame_words.specs.declared.view.StepKind.TheVariants.{GiveBack};
 
 use crate::answers::{Share, Took};
@@ -44,6 +45,7 @@ pub fn share(table: &FrameTable, holder: &mut Holder, frame: FrameNo, generation
     requires made { IsMade table.now holder.old }
     requires within { frame.0 < table.now.terms.frames }
     ensures answer { SharedBy holder.old.view (frame_word frame.0) generation result holder.new.view }
+    ensures tail { ShareAdds holder.old.view (frame_word frame.0) generation result holder.new.view }
     ensures same { holder.new.table ≡ holder.old.table }
 {
     let word = word_of_frame(frame);

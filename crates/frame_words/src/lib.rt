@@ -3,6 +3,7 @@
 #![tactic(auto)]
 
 mod answers;
+mod crossing;
 mod frames;
 mod holder;
 mod loans;
@@ -18,6 +19,7 @@ mod tests;
 mod view;
 
 pub use answers::{Borrow, Share, Took};
+pub use crossing::cross_threads;
 pub use frames::{give_back, share, take};
 pub use holder::Holder;
 pub use loans::{borrow, repay};

@@ -1,8 +1,9 @@
 //! One holder becomes two, and two become one.
-ghost use Rattle.std.specs.Prelude.{◌≡◌, ◌<◌, []};
+ghost use Rattle.std.specs.Prelude.{◌≡◌, ◌<◌, ◌≤◌, [], length};
 ghost use Rattle.frame_words.specs.Holders.{IsMade};
 ghost use Rattle.frame_words.specs.Steps.{left_with, begun_with, joined};
-ghost use Rattle.frame_words.specs.Splits.{named, HasHolds};
+ghost use Rattle.frame_words.specs.Views.{KeepsRest};
+ghost use Rattle.frame_words.specs.Splits.{named, HasHolds, KeepsUnnamed};
 
 use crate::holder::Holder;
 use crate::rights::{Cut, Ends, Part, Rights};
@@ -41,6 +42,8 @@ pub fn split(table: &FrameTable, holder: &mut Holder, frames: &FrameList, loans:
     requires has { HasHolds holder.old.view (named frames.now loans.now) }
     ensures left { holder.new.view ≡ left_with (named frames.now loans.now) holder.old.view }
     ensures right { result.view ≡ begun_with (named frames.now loans.now) }
+    ensures rest { KeepsRest holder.old.view (named frames.now loans.now) holder.new.view }
+    ensures unnamed { length loans.now ≤ 8 → KeepsUnnamed holder.old.view frames.now loans.now holder.new.view }
     ensures same { (holder.new.table ≡ holder.old.table) × (result.table ≡ holder.old.table) }
 {
     let words = &table.table.shared;

@@ -79,7 +79,8 @@ fn first_words(alloc: Global, frames: u32, first: u32) -> Result<Vec<u64>, Alloc
     Ok(words)
 }
 
-/// Ends a table. The words kept the rights rule to the end, with the holder's view.
+/// Ends a table. The clause says only that some state has this view and keeps the rights rule;
+/// that each state of the table keeps it is owed by each step.
 pub fn close(table: FrameTable, holder: Holder)
     requires made { IsMade table holder }
     requires empty { holder.view.holds ≡ [] }

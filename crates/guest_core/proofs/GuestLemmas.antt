@@ -3,8 +3,8 @@ use Rattle.std.proofs.Common.{◌≡◌, ℕ, zero, suc, ◌<◌, ◌≤◌, Lis
 use Rattle.std.specs.Vec.{with_item}
 use Rattle.std.proofs.lemmas.List.{length-replicate, length-set, map-set, get_or-map}
 use Rattle.base_words.specs.declared.ids.VcpuId.{VcpuId}
-use Rattle.base_words.specs.OwnStep.{PrivateMachine}
-use Rattle.base_words.specs.PrivateRun.{Image, booted}
+use Rattle.private_machine.specs.PrivateMachine.{PrivateMachine}
+use Rattle.private_machine.specs.PrivateRun.{Image, booted}
 use Rattle.isolation.specs.GuestState.{GuestState, Processor, idle, processor, with_loaded, admitted}
 use Rattle.guest_core.specs.GuestView.{IsSound, processor_of, loaded_at, state_of}
 use Rattle.guest_core.specs.declared.guest.Guest.TheInside.{Inside}
@@ -15,10 +15,10 @@ nothing_loaded : (m : PrivateMachine) (processors p v : ℕ) → (processor (adm
 nothing_loaded m processors p v loaded = let none : Some v ≡ None = sym loaded ∙ ap (λ (x : Processor). x.loaded) (get_or-alike processors p idle) in cc
 
 -- a guest is sound at its start
-pub IsSound-admitted : (image : Image) (vcpus processors : ℕ) → 0 < vcpus → processors ≤ 16 → IsSound (admitted (booted image vcpus) processors)
+pub IsSound-admitted : (image : Image) (vcpus processors : ℕ) → 0 < vcpus → processors ≤ 16 → IsSound (admitted (booted image vcpus [] []) processors)
 IsSound-admitted image vcpus processors some few = record {
   few = rw length-replicate few;
-  there = λ p v loaded. absurd (nothing_loaded (booted image vcpus) processors p v loaded);
+  there = λ p v loaded. absurd (nothing_loaded (booted image vcpus [] []) processors p v loaded);
   runs = λ going. all_halted-started vcpus image.entry some;
 }
 
@@ -35,10 +35,10 @@ at_set P (x ∷ xs) (suc p) y d zero new old = old
 at_set P (x ∷ xs) (suc p) y d (suc q) new old = at_set P xs p y d q new old
 
 -- a guest stays sound when one of its virtual processors, or nothing, is loaded on a processor
-pub IsSound-with_loaded : (s : GuestState) (p : ℕ) (x : Option ℕ) → IsSound s → ((v : ℕ) → x ≡ Some v → v < length s.vcpus) → IsSound (with_loaded s p x)
+pub IsSound-with_loaded : (s : GuestState) (p : ℕ) (x : Option ℕ) → IsSound s → ((v : ℕ) → x ≡ Some v → v < length s.machine.vcpus) → IsSound (with_loaded s p x)
 IsSound-with_loaded s p x sound known = record {
   few = rw length-set sound.few;
-  there = λ q v. at_set (λ (r : Processor). r.loaded ≡ Some v → v < length s.vcpus) s.processors p (record { loaded = x }) idle q (known v) (sound.there q v);
+  there = λ q v. at_set (λ (r : Processor). r.loaded ≡ Some v → v < length s.machine.vcpus) s.processors p (record { loaded = x }) idle q (known v) (sound.there q v);
   runs = sound.runs;
 }
 

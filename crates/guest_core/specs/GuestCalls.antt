@@ -1,14 +1,14 @@
 -- What each call of a guest does, by its answer: which entries its journal gains, or that nothing changes.
-use Rattle.std.specs.Prelude.{◌≡◌, ◌⊎◌, ℕ, List, [], ◌∷◌, ◌++◌, Bool, true, false, Some, None, Result, Ok, Err}
+use Rattle.std.specs.Prelude.{◌≡◌, ℕ, List, [], ◌∷◌, ◌++◌, Bool, true, false, Some, None, Result, Ok, Err}
 use Rattle.std.specs.declared.alloc.AllocError.{AllocError}
 use Rattle.base_words.specs.declared.ids.ProcId.{ProcId}
 use Rattle.base_words.specs.declared.ids.VcpuId.{VcpuId}
 use Rattle.base_words.specs.declared.events.Event.{Event}
 use Rattle.base_words.specs.declared.events.Event.TheVariants.{Load, Emulate, End as Ending}
 use Rattle.base_words.specs.declared.events.End.{End}
-use Rattle.base_words.specs.declared.events.End.TheVariants.{Halted, Unbuilt}
-use Rattle.base_words.specs.OwnStep.{vcpu}
-use Rattle.isolation.specs.GuestState.{processor, content, all_halted}
+use Rattle.base_words.specs.declared.events.End.TheVariants.{Halted}
+use Rattle.private_machine.specs.PrivateMachine.{vcpu}
+use Rattle.isolation.specs.GuestState.{processor, all_halted}
 use Rattle.isolation.specs.MachineEvent.{Runs}
 use Rattle.isolation.specs.Run.{Run}
 use Rattle.guest_core.specs.GuestView.{Monitored}
@@ -45,30 +45,32 @@ pub record Steps (old : Monitored) (p : ProcId) (new : Monitored) : Type 0 where
   pub v : VcpuId
   pub not_ended : old.state.ended ≡ None
   pub runs : Runs old.state p.0 v.0
-  pub extends : Extends old new (step_entries p v (all_halted new.state.vcpus))
+  pub extends : Extends old new (step_entries p v (all_halted new.state.machine.vcpus))
 
 -- the virtual processor that is loaded has halted
 pub record HasHalted (old : Monitored) (p : ProcId) (new : Monitored) : Type 0 where
   pub v : ℕ
   pub not_ended : old.state.ended ≡ None
   pub loaded : (processor old.state p.0).loaded ≡ Some v
-  pub halted : (vcpu (content old.state) v).halted ≡ true
+  pub halted : (vcpu old.state.machine v).halted ≡ true
   pub same : new ≡ old
 
--- the guest had ended before, or ends now since its step isn't built
-abbrev pub HasEnded : Monitored → End → Monitored → Type 0
-HasEnded old end new =
-    ((old.state.ended ≡ Some end) × (new ≡ old)) ⊎ ((word : ℕ) × (end ≡ Unbuilt word) × Extends old new (Ending end ∷ []))
+-- the guest of the virtual processor that is loaded had ended before
+pub record HasEnded (old : Monitored) (p : ProcId) (end : End) (new : Monitored) : Type 0 where
+  pub v : ℕ
+  pub loaded : (processor old.state p.0).loaded ≡ Some v
+  pub ended : old.state.ended ≡ Some end
+  pub same : new ≡ old
 
 -- what a turn does
 abbrev pub Turns : Monitored → ProcId → Monitored → Result Turn AllocError → Type 0
 Turns old p new (Ok Stepped) = Steps old p new
 Turns old p new (Ok VcpuHalted) = HasHalted old p new
-Turns old p new (Ok (GuestEnded end)) = HasEnded old end new
+Turns old p new (Ok (GuestEnded end)) = HasEnded old p end new
 Turns old p new (Err e) = new ≡ old
 
 -- what a guest that has ended leaves
 pub record Leaves (guest : Monitored) (left : GuestRecord) : Type 0 where
   pub journal : left.journal ≡ guest.journal
-  pub console : left.console ≡ guest.state.console
+  pub console : left.console ≡ guest.state.machine.devices.console
   pub end : guest.state.ended ≡ Some left.end

@@ -22,14 +22,7 @@ abbrev pub IsNowhere : List (Option VcpuId) → VcpuId → Type 0
 IsNowhere loaded vcpu = (q : ℕ) → loaded_at loaded q ≢ Some vcpu.0
 
 abbrev pub state_of : Inside → GuestState
-state_of g = record {
-  pages = g.machine.pages;
-  memory = g.machine.memory;
-  vcpus = g.machine.vcpus;
-  console = g.machine.console;
-  processors = map processor_of g.loaded.items;
-  ended = g.ended;
-}
+state_of g = record { machine = g.machine; processors = map processor_of g.loaded.items; ended = g.ended }
 
 abbrev pub guest_of : Inside → Monitored
 guest_of g = record { state = state_of g; journal = g.journal.items }
@@ -37,5 +30,10 @@ guest_of g = record { state = state_of g; journal = g.journal.items }
 -- each loaded virtual processor is one of the guest's, and a guest whose last one has halted has ended
 pub record IsSound (s : GuestState) : Type 0 where
   pub few : length s.processors ≤ 16
-  pub there : (p v : ℕ) → (processor s p).loaded ≡ Some v → v < length s.vcpus
-  pub runs : s.ended ≡ None → all_halted s.vcpus ≡ false
+  pub there : (p v : ℕ) → (processor s p).loaded ≡ Some v → v < length s.machine.vcpus
+  pub runs : s.ended ≡ None → all_halted s.machine.vcpus ≡ false
+
+-- and how many there are is kept beside them
+pub record IsKept (g : Inside) : Type 0 where
+  pub sound : IsSound (state_of g)
+  pub count : g.vcpus ≡ length g.machine.vcpus

@@ -1,5 +1,2 @@
-pub mod Attempt
 pub mod GuestCalls
 pub mod GuestView
-pub mod MachineView
-pub mod MemoryPlace

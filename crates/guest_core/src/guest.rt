@@ -1,24 +1,27 @@
 //! A guest under the monitor.
-ghost use Rattle.std.specs.Prelude.{◌≡◌, ◌≢◌, ◌≤◌, ◌<◌, length, [], ◌∷◌, ◌++◌, map, None, Some, IfOk, OnOk, OnErr, MatchOption, option_map, ℕ, replicate, vec_len, vec_capacity, ◌+◌, if◌then◌else◌, IsTrue, ◌↔◌};
+ghost use Rattle.std.specs.Prelude.{◌≡◌, ◌≢◌, ◌≤◌, ◌<◌, length, [], ◌∷◌, ◌++◌, map, None, Some, IfOk, OnOk, OnErr, MatchOption, option_map, ℕ, replicate, vec_len, vec_capacity, ◌+◌, if◌then◌else◌, IsTrue, ◌↔◌, false};
 ghost use Rattle.base_words.specs.declared.ids.VcpuId.{VcpuId};
 ghost use Rattle.base_words.specs.declared.events.Event.TheVariants.{Load, Unload, End as Ending};
 ghost use Rattle.base_words.specs.declared.events.End.TheVariants.{Budget, Halted};
-ghost use Rattle.base_words.specs.PrivateRun.{booted};
-ghost use Rattle.isolation.specs.GuestState.{admitted, processor as processor_at, with_loaded};
+ghost use Rattle.private_machine.specs.PrivateRun.{booted};
+ghost use Rattle.isolation.specs.GuestState.{admitted, processor as processor_at, with_loaded, all_halted as all_halted_of};
 ghost use Rattle.isolation.specs.MachineEvent.{Runs};
-ghost use Rattle.guest_core.specs.MachineView.{image_of};
+ghost use Rattle.flat_machine.specs.FlatView.{start_of};
 ghost use Rattle.guest_core.specs.GuestView.{IsNowhere, loaded_at};
 ghost use Rattle.guest_core.specs.GuestCalls.{LoadsVcpu, Leaves, Makes, Turns};
 
-use crate::{GuestRecord, Image, Loaded, Machine, StepFault, Turn};
-use base_words::{End, Event, ProcId, Sequence, VcpuId};
+use crate::{GuestRecord, Loaded, Turn};
+use base_words::{End, Event, InputList, OwnEvent, ProcId, Sequence, VcpuId};
+use elf_image::Image;
+use flat_machine::Flat;
 use std::alloc::{AllocError, Global};
 use std::marker::Model;
 
-/// A guest: its machine, what is loaded on each processor, how it ended, and its journal.
+/// A guest: its machine of so many virtual processors, what is loaded on each processor, how it ended, and its journal.
 #[derive(Debug, Drop)]
 pub struct Guest {
-    machine: Machine,
+    machine: Flat,
+    vcpus: u8,
     loaded: Vec<Option<VcpuId>>,
     ended: Option<End>,
     journal: Vec<Event>,
@@ -29,22 +32,25 @@ impl Model for Guest {
 
     ghost Value = { Monitored };
 
-    ghost use Rattle.guest_core.specs.GuestView.{guest_of, state_of, IsSound};
+    ghost use Rattle.guest_core.specs.GuestView.{guest_of, IsKept};
 
     ghost view = { guest_of };
 
-    ghost invariant = { λ g. IsSound (state_of g) };
+    ghost invariant = { IsKept };
 }
 
 impl Guest {
-    /// A guest at its start, with so many virtual processors, of which none is loaded on one of so many processors.
-    pub fn boot(alloc: Global, image: Image, vcpus: u8, processors: u8) -> Result<Self, AllocError>
+    /// A guest at its start, with so many virtual processors, of which none is loaded on one of so many processors. It has no
+    /// disk and no input.
+    pub fn boot(alloc: Global, image: &Image, vcpus: u8, processors: u8) -> Result<Self, AllocError>
         requires some { 0 < vcpus }
         requires few { processors ≤ 16 }
-        ensures { IfOk result (λ g. g ≡ record { state = admitted (booted (image_of image) vcpus) processors; journal = [] }) }
+        ensures { IfOk result (λ g. g ≡ record { state = admitted (booted (start_of image.now) vcpus [] []) processors; journal = [] }) }
     {
+        let input = InputList::new(alloc);
         Ok(Guest {
-            machine: Machine::boot(alloc, image, vcpus)?,
+            machine: Flat::boot(alloc, image, vcpus, None, &input)?,
+            vcpus,
             loaded: idle(alloc, processors)?,
             ended: None,
             journal: Vec::new(alloc),
@@ -69,6 +75,7 @@ impl Guest {
     fn enter(&mut self, event: Event) -> Result<(), AllocError>
         ensures ok { OnOk result (self.new ≡ record self.old { journal = self.old.journal ++ event ∷ [] }) }
         ensures err { OnErr result (self.new ≡ self.old) }
+        ensures runs { self.old.state.ended ≡ None → all_halted_of self.old.state.machine.vcpus ≡ false }
     {
         match self.journal.push(event) {
             Ok(()) => Ok(()),
@@ -79,7 +86,7 @@ impl Guest {
     /// What is loaded on a processor from now on.
     fn set_loaded(&mut self, processor: ProcId, vcpu: Option<VcpuId>)
         requires processor { processor.0 < length self.old.state.processors }
-        requires vcpu { (v : VcpuId) → vcpu ≡ Some v → v.0 < length self.old.state.vcpus }
+        requires vcpu { (v : VcpuId) → vcpu ≡ Some v → v.0 < length self.old.state.machine.vcpus }
         ensures { self.new ≡ record self.old { state = with_loaded self.old.state processor.0 (option_map (λ (v : VcpuId). v.0) vcpu) } }
     {
         self.loaded[processor.0 as usize] = vcpu;
@@ -88,7 +95,7 @@ impl Guest {
     /// Loads a virtual processor on a processor on which nothing is loaded.
     pub fn load_vcpu(&mut self, processor: ProcId, vcpu: VcpuId) -> Result<Loaded, AllocError>
         requires processor { processor.0 < length self.old.state.processors }
-        requires vcpu { vcpu.0 < length self.old.state.vcpus }
+        requires vcpu { vcpu.0 < length self.old.state.machine.vcpus }
         requires free { (processor_at self.old.state processor.0).loaded ≡ None }
         ensures { LoadsVcpu self.old processor vcpu self.new result }
     {
@@ -103,9 +110,10 @@ impl Guest {
         Ok(Loaded::Done)
     }
 
-    /// Unloads what is loaded on a processor.
+    /// Unloads what is loaded on a processor. The plan may not have ended the guest.
     pub fn unload(&mut self, processor: ProcId) -> Result<(), AllocError>
-        requires { (processor_at self.old.state processor.0).loaded ≢ None }
+        requires loaded { (processor_at self.old.state processor.0).loaded ≢ None }
+        requires before { self.old.state.ended ≢ Some Budget }
         ensures { Makes self.old (Unload processor) self.new result }
     {
         self.enter(Event::Unload(processor))?;
@@ -114,7 +122,7 @@ impl Guest {
     }
 
     /// The virtual processor that is loaded on a processor makes one step of its own, where the guest hasn't ended and it
-    /// hasn't halted. The guest ends with the step that halts its last one, and at a step that isn't built.
+    /// hasn't halted. The guest ends with the step that halts its last one.
     pub fn turn(&mut self, processor: ProcId) -> Result<Turn, AllocError>
         requires { (processor_at self.old.state processor.0).loaded ≢ None }
         ensures { Turns self.old processor self.new result }
@@ -123,7 +131,7 @@ impl Guest {
             return Ok(Turn::GuestEnded(end));
         }
         let vcpu = loaded_vcpu(&self.loaded, processor);
-        if self.machine.is_halted(vcpu) {
+        if self.machine.halted(vcpu) {
             return Ok(Turn::VcpuHalted);
         }
         self.step(processor, vcpu)
@@ -132,27 +140,18 @@ impl Guest {
     /// A step of a virtual processor that runs.
     fn step(&mut self, processor: ProcId, vcpu: VcpuId) -> Result<Turn, AllocError>
         requires not_ended { self.old.state.ended ≡ None }
-        requires there { vcpu.0 < length self.old.state.vcpus }
+        requires there { vcpu.0 < length self.old.state.machine.vcpus }
         requires runs { Runs self.old.state processor.0 vcpu.0 }
         ensures { Turns self.old processor self.new result }
     {
         if self.journal.reserve(2).is_err() {
             return Err(AllocError);
         }
-        match self.machine.attempt(vcpu) {
-            Ok(()) => {
-                record(&mut self.journal, Event::Emulate(processor, vcpu));
-                self.ended = conclude(self.machine.all_halted(), &mut self.journal);
-                Ok(Turn::Stepped)
-            }
-            Err(StepFault::Raised(_)) => {
-                let end = End::Unbuilt(self.machine.word(vcpu));
-                record(&mut self.journal, Event::End(end));
-                self.ended = Some(end);
-                Ok(Turn::GuestEnded(end))
-            }
-            Err(StepFault::Memory) => Err(AllocError),
-        }
+        self.machine.own_event(&OwnEvent::Step(vcpu))?;
+        record(&mut self.journal, Event::Emulate(processor, vcpu));
+        let halted = all_halted(&self.machine, self.vcpus);
+        self.ended = conclude(halted, &mut self.journal);
+        Ok(Turn::Stepped)
     }
 
     /// What the guest leaves.
@@ -162,6 +161,7 @@ impl Guest {
     {
         let Guest {
             machine,
+            vcpus: _,
             loaded: _,
             ended,
             journal,
@@ -182,6 +182,19 @@ impl Guest {
         self.ended = Some(End::Budget);
         Ok(())
     }
+}
+
+/// Whether all of so many virtual processors have halted.
+fn all_halted(machine: &Flat, vcpus: u8) -> bool
+    requires { vcpus ≡ length machine.now.vcpus }
+    ensures { result ≡ all_halted_of machine.now.vcpus }
+{
+    for number in 0..vcpus {
+        if !machine.halted(VcpuId(number)) {
+            return false;
+        }
+    }
+    true
 }
 
 /// So many processors on which nothing is loaded.

@@ -1,25 +1,26 @@
 //! Guests that are loaded, make turns and end.
-use crate::{Guest, Image, Loaded, RunRecord, Turn};
-use base_words::{Bytes, End, Event, ProcId, VcpuId};
+use crate::{Guest, Loaded, RunRecord, Turn};
+use base_words::{End, Event, ProcId, VcpuId};
+use elf_image::{Image, load_raw};
 use std::alloc::{AllocError, Global};
 use std::process::Abort;
 use std::test::Fail;
 
-/// ORI 1, 0, 1; LUI 2, CFFF; ORI 2, 2, F000; SW 1, 0(2); SW 0, 4(2); a word that isn't built.
+/// ORI 1, 0, 1; LUI 2, CFFF; ORI 2, 2, F000; SW 1, 0(2); SW 0, 4(2); SYSCALL.
 const PRINTS_AND_HALTS: [u8; 24] = [
     0x34, 0x01, 0x00, 0x01, 0x3C, 0x02, 0xCF, 0xFF, 0x34, 0x42, 0xF0, 0x00, 0xAC, 0x41, 0x00, 0x00,
-    0xAC, 0x40, 0x00, 0x04, 0x42, 0x00, 0x00, 0x02,
+    0xAC, 0x40, 0x00, 0x04, 0x00, 0x00, 0x00, 0x0C,
 ];
 
 /// A guest's image of one page, which begins with these bytes.
 fn image_of(alloc: Global, entry: u32) -> Result<Image, AllocError> {
-    let mut memory = vec![in alloc; 0u8; 4096]?;
-    memory[..24].copy_from_slice(&PRINTS_AND_HALTS);
-    Ok(Image {
-        entry,
-        pages: 1,
-        memory: Bytes::from_vec(memory),
-    })
+    match load_raw(alloc, &PRINTS_AND_HALTS, 1) {
+        Ok(image) => Ok(Image {
+            entry,
+            pages: image.pages,
+        }),
+        Err(_) => Err(AllocError),
+    }
 }
 
 /// Makes turns of what is loaded on a processor, each of which is one step.
@@ -39,7 +40,7 @@ fn make_steps(
 #[test]
 fn a_guest_of_two_halts_with_the_last(rt: HostRuntime) -> Result<(), Fail> {
     let alloc = rt.alloc();
-    let mut guest = Guest::boot(alloc, image_of(alloc, 0xC000_0000)?, 2, 3)?;
+    let mut guest = Guest::boot(alloc, &image_of(alloc, 0xC000_0000)?, 2, 3)?;
     assert_eq!(rt; guest.load_vcpu(ProcId(0), VcpuId(0))?, Loaded::Done);
     assert_eq!(rt;
         guest.load_vcpu(ProcId(1), VcpuId(0))?,
@@ -66,22 +67,20 @@ fn a_guest_of_two_halts_with_the_last(rt: HostRuntime) -> Result<(), Fail> {
 }
 
 #[test]
-fn a_step_that_is_not_built_ends_the_guest(rt: HostRuntime) -> Result<(), Fail> {
+fn a_step_that_raises_an_exception_is_a_step(rt: HostRuntime) -> Result<(), Fail> {
     let alloc = rt.alloc();
-    for (entry, word) in [
-        (0xC000_0014, 0x4200_0002),
-        (0xC000_1000, 0),
-        (0x0000_0000, 0),
-        (0xC000_0002, 0),
-    ] {
-        let mut guest = Guest::boot(alloc, image_of(alloc, entry)?, 1, 1)?;
+    for entry in [0xC000_0014, 0xC000_1000, 0x0000_0000, 0xC000_0002] {
+        let mut guest = Guest::boot(alloc, &image_of(alloc, entry)?, 1, 1)?;
         assert_eq!(rt; guest.load_vcpu(ProcId(0), VcpuId(0))?, Loaded::Done);
+        assert_eq!(rt; guest.turn(ProcId(0))?, Turn::Stepped, "at {entry:x}");
+        assert_eq!(rt; guest.end(), None, "at {entry:x}");
+        guest.end_budget()?;
+        let record = guest.into_record();
         assert_eq!(rt;
-            guest.turn(ProcId(0))?,
-            Turn::GuestEnded(End::Unbuilt(word)),
+            record.journal.as_slice()[1],
+            Event::Emulate(ProcId(0), VcpuId(0)),
             "at {entry:x}"
         );
-        assert_eq!(rt; guest.end(), Some(End::Unbuilt(word)));
     }
     Ok(())
 }
@@ -89,7 +88,7 @@ fn a_step_that_is_not_built_ends_the_guest(rt: HostRuntime) -> Result<(), Fail> 
 #[test]
 fn a_guest_ends_with_the_plan(rt: HostRuntime) -> Result<(), Fail> {
     let alloc = rt.alloc();
-    let mut guest = Guest::boot(alloc, image_of(alloc, 0xC000_0000)?, 1, 1)?;
+    let mut guest = Guest::boot(alloc, &image_of(alloc, 0xC000_0000)?, 1, 1)?;
     guest.end_budget()?;
     assert_eq!(rt;
         guest.load_vcpu(ProcId(0), VcpuId(0))?,

@@ -1,5 +1,6 @@
 //! The fields of one entry.
-ghost use Rattle.std.specs.Prelude.{◌≡◌, ◌<◌};
+ghost use Rattle.base_words.specs.declared.tlb.TlbAnswer.TheVariants.{Hit};
+ghost use Rattle.std.specs.Prelude.{ℕ, ◌^◌, ◌≡◌, ◌<◌};
 ghost use Rattle.base_words.specs.Tlb.{page_pair as page_pair_of, address_space as address_space_of, is_global as is_global_entry, matches as is_match, half as half_of, permitted as permitted_by, kept as kept_entry, kept_lo as kept_lo_of, entry_at_reset};
 
 use base_words::{Entry, TlbAnswer};
@@ -62,7 +63,8 @@ pub fn half(entry: &Entry, address: u32) -> u32
 
 /// What a half says of a store or another use.
 pub fn permitted(lo: u32, store: bool) -> TlbAnswer
-    ensures { result ≡ permitted_by store lo }
+    ensures answer { result ≡ permitted_by store lo }
+    ensures reach { (frame : ℕ) → result ≡ Hit frame → frame < 2 ^ 24 }
 {
     if lo / VALID % 2 == 0 {
         TlbAnswer::Invalid

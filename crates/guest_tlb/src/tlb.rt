@@ -1,5 +1,6 @@
 //! The entries of a guest's TLB.
-ghost use Rattle.std.specs.Prelude.{◌≡◌, length};
+ghost use Rattle.std.specs.Prelude.{◌≡◌, ℕ, ◌<◌, ◌^◌, length};
+ghost use Rattle.base_words.specs.declared.tlb.TlbAnswer.TheVariants.{Hit};
 ghost use Rattle.base_words.specs.Tlb.{looked_up, probed, entry_read, entry_written, tlb_at_reset};
 
 use crate::entries::{address_space, at_reset, half, kept, matches, page_pair, permitted};
@@ -34,9 +35,10 @@ impl Tlb48 {
         }
     }
 
-    /// What the TLB says of an address in an address space, for a store or another use.
+    /// What the TLB says of an address in an address space, for a store or another use. A frame's number has 24 bits.
     pub fn lookup(&self, address: u32, asid: u8, store: bool) -> TlbAnswer
-        ensures { result ≡ looked_up self.now address asid store }
+        ensures answer { result ≡ looked_up self.now address asid store }
+        ensures reach { (frame : ℕ) → result ≡ Hit frame → frame < 2 ^ 24 }
     {
         let pair = page_pair(address);
         match self.entries.iter().find(|entry| matches(entry, pair, asid)) {

@@ -1,21 +1,24 @@
 -- What each entry does to the guest as it sees itself.
-use Rattle.std.proofs.Common.{◌≡◌, ℕ, [], ◌∷◌, false, Ok, refl, ap, sym, ◌∙◌}
+use Rattle.std.proofs.Common.{◌≡◌, ap}
 use Rattle.base_words.specs.declared.events.Event.{Event}
-use Rattle.base_words.specs.declared.events.Event.TheVariants.{Load, Unload, Emulate, End as Ending}
-use Rattle.base_words.specs.OwnStep.{PrivateMachine, vcpu, attempted, own_step}
-use Rattle.base_words.specs.PrivateRun.{private_run}
-use Rattle.isolation.specs.GuestState.{GuestState, content}
+use Rattle.base_words.specs.declared.events.Event.TheVariants.{Direct, Refill, Emulate, Begin, Ack, Finish, Load, Unload, PacketIn, Discard, Skip, CellFails, End as Ending}
+use Rattle.private_machine.specs.PrivateRun.{private_run}
+use Rattle.isolation.specs.GuestState.{GuestState}
 use Rattle.isolation.specs.MachineEvent.{Row}
-use Rattle.isolation.specs.OwnHistory.{own}
+use Rattle.isolation.specs.OwnHistory.{own_of}
 
--- a step that is made is the guest's own
-own_step-made : (m : PrivateMachine) (v : ℕ) (after : PrivateMachine) → (vcpu m v).halted ≡ false → attempted m v ≡ Ok after → own_step m v ≡ after
-own_step-made m v after running made = rw (running, made) refl
-
--- an entry does to the content what its own event does, or nothing
-pub content-row : (s : GuestState) (e : Event) (t : GuestState) → Row s e t → content t ≡ private_run (content s) (own (e ∷ []))
-content-row s (Load p v) t row = ap content row.after
-content-row s (Unload p) t row = ap content row.after
-content-row s (Emulate p v) t row =
-    ap content row.after ∙ sym (own_step-made (content s) v.0 row.machine row.runs.running row.steps)
-content-row s (Ending end) t row = ap content row.after
+-- an entry does to the machine what its own event does, or nothing
+pub machine-row : (s : GuestState) (e : Event) (t : GuestState) → Row s e t → t.machine ≡ private_run s.machine (own_of e)
+machine-row s (Direct p v) t row = absurd row
+machine-row s (Refill p) t row = absurd row
+machine-row s (Emulate p v) t row = ap (λ (x : GuestState). x.machine) row.after
+machine-row s (Begin page kind node by) t row = absurd row
+machine-row s (Ack p page) t row = absurd row
+machine-row s (Finish page) t row = absurd row
+machine-row s (Load p v) t row = ap (λ (x : GuestState). x.machine) row.after
+machine-row s (Unload p) t row = ap (λ (x : GuestState). x.machine) row.after
+machine-row s (PacketIn place) t row = absurd row
+machine-row s (Discard place) t row = absurd row
+machine-row s (Skip place) t row = absurd row
+machine-row s (CellFails cell) t row = absurd row
+machine-row s (Ending end) t row = ap (λ (x : GuestState). x.machine) row.after

@@ -1,31 +1,29 @@
 -- Runs, entry by entry.
 use Rattle.std.proofs.Common.{◌≡◌, List, [], ◌∷◌, ◌++◌, refl, ap, sym, ◌∙◌, subst}
 use Rattle.base_words.specs.declared.events.Event.{Event}
-use Rattle.base_words.specs.declared.events.Event.TheVariants.{Load, Unload, Emulate, End as Ending}
-use Rattle.base_words.specs.OwnStep.{PrivateMachine}
-use Rattle.base_words.specs.PrivateRun.{private_run}
-use Rattle.isolation.specs.GuestState.{GuestState, content}
+use Rattle.base_words.specs.declared.events.OwnEvent.{OwnEvent}
+use Rattle.private_machine.specs.PrivateMachine.{PrivateMachine}
+use Rattle.private_machine.specs.PrivateRun.{private_run, own_event}
+use Rattle.isolation.specs.GuestState.{GuestState}
 use Rattle.isolation.specs.MachineEvent.{Row}
-use Rattle.isolation.specs.OwnHistory.{own}
+use Rattle.isolation.specs.OwnHistory.{own_of, own}
 use Rattle.isolation.specs.Run.{Run}
-use Rattle.isolation.proofs.Content.{content-row}
+use Rattle.isolation.proofs.Content.{machine-row}
 
--- the own part of a journal is that of its first entry and that of the rest
-private_run-own : (m : PrivateMachine) (e : Event) (journal : List Event) → private_run m (own (e ∷ journal)) ≡ private_run (private_run m (own (e ∷ []))) (own journal)
-private_run-own m (Load p v) journal = refl
-private_run-own m (Unload p) journal = refl
-private_run-own m (Emulate p v) journal = refl
-private_run-own m (Ending end) journal = refl
+-- a run over two lists is a run over the second from where the first leads
+private_run-append : (m : PrivateMachine) (first second : List OwnEvent) → private_run m (first ++ second) ≡ private_run (private_run m first) second
+private_run-append m [] second = refl
+private_run-append m (e ∷ first) second = private_run-append (own_event m e) first second
 
-pub content-run : (s t : GuestState) (journal : List Event) → Run s journal t → content t ≡ private_run (content s) (own journal)
-content-run s t [] run = ap content run
-content-run s t (e ∷ journal) run =
+pub machine-run : (s t : GuestState) (journal : List Event) → Run s journal t → t.machine ≡ private_run s.machine (own journal)
+machine-run s t [] run = ap (λ (x : GuestState). x.machine) run
+machine-run s t (e ∷ journal) run =
     let a = run.0 in
     let m = run.1 in
-    content-run m t journal run.4
-    ∙ ap (λ x. private_run x (own journal)) (content-row a e m run.3)
-    ∙ ap (λ x. private_run (private_run (content x) (own (e ∷ []))) (own journal)) run.2
-    ∙ sym (private_run-own (content s) e journal)
+    machine-run m t journal run.4
+    ∙ ap (λ x. private_run x (own journal)) (machine-row a e m run.3)
+    ∙ ap (λ (x : GuestState). private_run (private_run x.machine (own_of e)) (own journal)) run.2
+    ∙ sym (private_run-append s.machine (own_of e) (own journal))
 
 -- a run, and one entry more
 pub Run-push : (s t u : GuestState) (journal : List Event) (e : Event) → Run s journal t → Row t e u → Run s (journal ++ e ∷ []) u

@@ -5,16 +5,16 @@ use Rattle.base_words.specs.declared.ids.VcpuId.{VcpuId}
 use Rattle.base_words.specs.declared.events.Event.{Event}
 use Rattle.base_words.specs.declared.events.Event.TheVariants.{Load, Unload, Emulate, End as Ending}
 use Rattle.base_words.specs.declared.events.End.TheVariants.{Halted}
-use Rattle.base_words.specs.OwnStep.{own_step}
-use Rattle.base_words.specs.PrivateRun.{booted}
-use Rattle.isolation.specs.GuestState.{GuestState, idle, admitted, content, with_content, with_loaded}
+use Rattle.private_machine.specs.OwnStep.{own_step}
+use Rattle.private_machine.specs.PrivateRun.{booted}
+use Rattle.isolation.specs.GuestState.{GuestState, idle, admitted, with_machine, with_loaded}
 use Rattle.isolation.specs.Run.{Run}
 
 -- LUI 1, CFFF; ORI 1, 1, F000; ADDIU 2, 0, 41; SW 2, 0(1); SW 2, 4(1), and any bytes behind
 abbrev start : List ℕ → GuestState
 start rest =
     let program = 0x3C ∷ 0x01 ∷ 0xCF ∷ 0xFF ∷ 0x34 ∷ 0x21 ∷ 0xF0 ∷ 0x00 ∷ 0x24 ∷ 0x02 ∷ 0x00 ∷ 0x41 ∷ 0xAC ∷ 0x22 ∷ 0x00 ∷ 0x00 ∷ 0xAC ∷ 0x22 ∷ 0x00 ∷ 0x04 ∷ [] in
-    admitted (booted (record { entry = 0xC000_0000; pages = 16; memory = program ++ rest }) 1) 1
+    admitted (booted (record { entry = 0xC000_0000; pages = 16; memory = program ++ rest }) 1 [] []) 1
 
 abbrev p : ProcId
 p = record { 0 = 0 }
@@ -26,7 +26,7 @@ abbrev after_load : List ℕ → GuestState
 after_load rest = with_loaded (start rest) 0 (Some 0)
 
 abbrev after_step : GuestState → GuestState
-after_step s = with_content s (own_step (content s) 0)
+after_step s = with_machine s (own_step s.machine 0)
 
 abbrev after_end : GuestState → GuestState
 after_end s = record s { ended = Some Halted }
@@ -38,7 +38,7 @@ idle_everywhere : (q : ℕ) → (slice_index_or (idle ∷ []) q idle).loaded ≢
 idle_everywhere zero same = cc
 idle_everywhere (suc q) same = cc
 
-pub prints_and_halts : (rest : List ℕ) → (t : GuestState) × Run (start rest) journal t × (t.console ≡ 0x41 ∷ [])
+pub prints_and_halts : (rest : List ℕ) → (t : GuestState) × Run (start rest) journal t × (t.machine.devices.console ≡ 0x41 ∷ [])
 prints_and_halts rest =
     let s0 = start rest in
     let s1 = after_load rest in
@@ -59,33 +59,33 @@ prints_and_halts rest =
           s1,
           s2,
           refl,
-          record { goes_on = record { not_ended = refl; some_run = refl }; runs = record { loaded = refl; running = refl }; machine = own_step (content s1) 0; steps = refl; after = refl },
+          record { goes_on = record { not_ended = refl; some_run = refl }; runs = record { loaded = refl; running = refl }; after = refl },
           (
             s2,
             s3,
             refl,
-            record { goes_on = record { not_ended = refl; some_run = refl }; runs = record { loaded = refl; running = refl }; machine = own_step (content s2) 0; steps = refl; after = refl },
+            record { goes_on = record { not_ended = refl; some_run = refl }; runs = record { loaded = refl; running = refl }; after = refl },
             (
               s3,
               s4,
               refl,
-              record { goes_on = record { not_ended = refl; some_run = refl }; runs = record { loaded = refl; running = refl }; machine = own_step (content s3) 0; steps = refl; after = refl },
+              record { goes_on = record { not_ended = refl; some_run = refl }; runs = record { loaded = refl; running = refl }; after = refl },
               (
                 s4,
                 s5,
                 refl,
-                record { goes_on = record { not_ended = refl; some_run = refl }; runs = record { loaded = refl; running = refl }; machine = own_step (content s4) 0; steps = refl; after = refl },
+                record { goes_on = record { not_ended = refl; some_run = refl }; runs = record { loaded = refl; running = refl }; after = refl },
                 (
                   s5,
                   s6,
                   refl,
-                  record { goes_on = record { not_ended = refl; some_run = refl }; runs = record { loaded = refl; running = refl }; machine = own_step (content s5) 0; steps = refl; after = refl },
+                  record { goes_on = record { not_ended = refl; some_run = refl }; runs = record { loaded = refl; running = refl }; after = refl },
                   (
                     s6,
                     s7,
                     refl,
                     record { cause = (refl, refl); after = refl },
-                    (s7, s8, refl, record { loaded = λ same. cc; after = refl }, refl),
+                    (s7, s8, refl, record { loaded = λ same. cc; may = tt; after = refl }, refl),
                   ),
                 ),
               ),

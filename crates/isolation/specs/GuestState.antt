@@ -1,18 +1,16 @@
 -- A guest under the monitor.
 use Rattle.std.specs.Prelude.{ℕ, List, [], ◌∷◌, Bool, true, ◌&&◌, Option, None, replicate, slice_index_or, slice_set}
 use Rattle.base_words.specs.declared.events.End.{End}
-use Rattle.base_words.specs.OwnStep.{Vcpu, PrivateMachine}
+use Rattle.private_machine.specs.declared.vcpu.Vcpu.{Vcpu}
+use Rattle.private_machine.specs.PrivateMachine.{PrivateMachine}
 
 -- a processor, as far as it serves this guest: the virtual processor that is loaded on it
 pub record Processor : Type 0 where
   pub loaded : Option ℕ
 
--- the guest's memory, virtual processors and console, the processors, and how it ended
+-- the guest as it sees itself, however the monitor keeps it, the processors, and how it ended
 pub record GuestState : Type 0 where
-  pub pages : ℕ
-  pub memory : List ℕ
-  pub vcpus : List Vcpu
-  pub console : List ℕ
+  pub machine : PrivateMachine
   pub processors : List Processor
   pub ended : Option End
 
@@ -26,12 +24,8 @@ processor s p = slice_index_or s.processors p idle
 abbrev pub with_loaded : GuestState → ℕ → Option ℕ → GuestState
 with_loaded s p vcpu = record s { processors = slice_set s.processors p (record { loaded = vcpu }) }
 
--- the guest as it sees itself, however the monitor keeps it
-abbrev pub content : GuestState → PrivateMachine
-content s = record { pages = s.pages; memory = s.memory; vcpus = s.vcpus; console = s.console }
-
-abbrev pub with_content : GuestState → PrivateMachine → GuestState
-with_content s m = record s { pages = m.pages; memory = m.memory; vcpus = m.vcpus; console = m.console }
+abbrev pub with_machine : GuestState → PrivateMachine → GuestState
+with_machine s m = record s { machine = m }
 
 -- all virtual processors have halted
 abbrev pub all_halted : List Vcpu → Bool
@@ -40,11 +34,4 @@ all_halted (v ∷ vcpus) = v.halted && all_halted vcpus
 
 -- a private machine under the monitor at its start, on so many processors
 abbrev pub admitted : PrivateMachine → ℕ → GuestState
-admitted m processors = record {
-  pages = m.pages;
-  memory = m.memory;
-  vcpus = m.vcpus;
-  console = m.console;
-  processors = replicate processors idle;
-  ended = None;
-}
+admitted m processors = record { machine = m; processors = replicate processors idle; ended = None }

@@ -1,19 +1,20 @@
 //! One instruction on the registers.
 ghost use Rattle.std.specs.Prelude.{◌≡◌};
-ghost use Rattle.base_words.specs.Instruction.{effect, computed, done, leads, trapped, branched, to_slot, linked, jump_target as target_of, address as address_of, half_of_product, with_half, register as register_of};
+ghost use Rattle.base_words.specs.Instruction.{effect, computed, done, leads, trapped, branched, to_slot, linked, jump_target as target_of, address as address_of, half_of_product, with_half, register as register_of, system as system_of};
 ghost use Rattle.mips_alu.specs.Execution.{Executes, outside_slot};
 ghost use Rattle.mips_alu.specs.Result.{option_of};
+ghost use Rattle.base_words.specs.declared.effect.Request.TheVariants.{Nothing};
 
 use crate::arithmetic::{AluOut, alu, holds, mul_div, operand, shift, sign_extend};
 use crate::registers::{advance, read, write};
-use base_words::{Exception, Half, Instr, JumpIndex, Register, Regs, Request, Untaken};
+use base_words::{Cp0Op, Exception, Half, Instr, JumpIndex, Register, Regs, Request, Untaken};
 
 /// The instruction is done, and the next one follows.
-fn finish(regs: &mut Regs, request: Request) -> Result<Request, Exception>
-    ensures { Executes (done regs.old request) regs.old regs.new result }
+fn finish(regs: &mut Regs) -> Result<Request, Exception>
+    ensures { Executes (done regs.old Nothing) regs.old regs.new result }
 {
     advance(regs);
-    Ok(request)
+    Ok(Request::Nothing)
 }
 
 /// A computed value goes into a register, and the next instruction follows.
@@ -23,7 +24,7 @@ fn put(regs: &mut Regs, register: Register, out: AluOut) -> Result<Request, Exce
     match out {
         AluOut::Value(value) => {
             write(regs, register, value);
-            finish(regs, Request::Nothing)
+            finish(regs)
         }
         AluOut::Overflow => Err(Exception::Overflow),
     }
@@ -36,7 +37,7 @@ fn trap(regs: &mut Regs, raised: bool) -> Result<Request, Exception>
     if raised {
         Err(Exception::Trap)
     } else {
-        finish(regs, Request::Nothing)
+        finish(regs)
     }
 }
 
@@ -167,8 +168,18 @@ fn return_register() -> Register
     Register::new(31)
 }
 
-/// Does an instruction on the registers, and answers what it asks of memory; or the exception that it raises, and the
-/// registers stay.
+/// An instruction of the TLB, or the return from an exception, which is reserved in a delay slot.
+fn system(regs: &Regs, op: Cp0Op) -> Result<Request, Exception>
+    ensures { Executes (system_of op regs.now) regs.now regs.now result }
+{
+    if op == Cp0Op::ExceptionReturn {
+        test_slot(regs)?;
+    }
+    Ok(Request::System(op))
+}
+
+/// Does an instruction on the registers, and answers what it asks of memory or of coprocessor 0. Where it asks something the
+/// registers stay until the answer is there, and where it raises an exception they stay.
 pub fn execute(instr: &Instr, regs: &mut Regs) -> Result<Request, Exception>
     ensures { Executes (effect instr.now regs.old) regs.old regs.new result }
 {
@@ -191,7 +202,7 @@ pub fn execute(instr: &Instr, regs: &mut Regs) -> Result<Request, Exception>
         }
         Instr::SystemCall { code: _ } => Err(Exception::SystemCall),
         Instr::Break { code: _ } => Err(Exception::Breakpoint),
-        Instr::Sync => finish(regs, Request::Nothing),
+        Instr::Sync => finish(regs),
         Instr::MoveFrom { half: which, rd } => {
             let value = half(regs, which);
             put(regs, rd, AluOut::Value(value))
@@ -199,13 +210,13 @@ pub fn execute(instr: &Instr, regs: &mut Regs) -> Result<Request, Exception>
         Instr::MoveTo { half: which, rs } => {
             let value = read(regs, rs);
             set_half(regs, which, value);
-            finish(regs, Request::Nothing)
+            finish(regs)
         }
         Instr::MulDiv { op, rs, rt } => {
             let product = mul_div(op, read(regs, rs), read(regs, rt));
             regs.hi = product.hi;
             regs.lo = product.lo;
-            finish(regs, Request::Nothing)
+            finish(regs)
         }
         Instr::Alu { op, rs, rt, rd } => {
             let out = alu(op, read(regs, rs), read(regs, rt));
@@ -289,7 +300,7 @@ pub fn execute(instr: &Instr, regs: &mut Regs) -> Result<Request, Exception>
                 address: address(regs, base, offset),
                 target: rt,
             };
-            finish(regs, request)
+            Ok(request)
         }
         Instr::Store {
             kind,
@@ -302,14 +313,14 @@ pub fn execute(instr: &Instr, regs: &mut Regs) -> Result<Request, Exception>
                 address: address(regs, base, offset),
                 value: read(regs, rt),
             };
-            finish(regs, request)
+            Ok(request)
         }
         Instr::LoadLinked { base, rt, offset } => {
             let request = Request::LoadLinked {
                 address: address(regs, base, offset),
                 target: rt,
             };
-            finish(regs, request)
+            Ok(request)
         }
         Instr::StoreConditional { base, rt, offset } => {
             let request = Request::StoreConditional {
@@ -317,10 +328,21 @@ pub fn execute(instr: &Instr, regs: &mut Regs) -> Result<Request, Exception>
                 value: read(regs, rt),
                 target: rt,
             };
-            finish(regs, request)
+            Ok(request)
         }
-        Instr::MoveFromCp0 { .. } | Instr::MoveToCp0 { .. } | Instr::Cp0(_) | Instr::Reserved(_) =>
-            Err(Exception::ReservedInstruction),
+        Instr::MoveFromCp0 { rt, rd } => Ok(Request::ReadCp0 {
+            number: rd,
+            target: rt,
+        }),
+        Instr::MoveToCp0 { rt, rd } => {
+            let request = Request::WriteCp0 {
+                number: rd,
+                value: read(regs, rt),
+            };
+            Ok(request)
+        }
+        Instr::Cp0(op) => system(regs, op),
+        Instr::Reserved(_) => Err(Exception::ReservedInstruction),
         Instr::Coprocessor { unit, word: _ } => Err(Exception::CoprocessorUnusable(unit)),
     }
 }

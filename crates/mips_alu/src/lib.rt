@@ -15,7 +15,7 @@ pub use merging::{
     load_unit, loaded_value, merge_left, merge_right, split_left, split_right, store_unit,
     stored_word,
 };
-pub use registers::{read, write};
+pub use registers::{advance, read, write};
 
 #[cfg(test)]
 mod tests;

@@ -91,6 +91,7 @@ fn half_at(word: u32, byte: u32) -> u16
 pub fn load_unit(kind: LoadKind) -> u32
     ensures value { result ≡ load_unit_of kind }
     ensures some { 0 < result }
+    ensures divides { 4 % result ≡ 0 }
 {
     match kind {
         LoadKind::Byte | LoadKind::ByteUnsigned | LoadKind::WordLeft | LoadKind::WordRight => 1,
@@ -103,6 +104,7 @@ pub fn load_unit(kind: LoadKind) -> u32
 pub fn store_unit(kind: StoreKind) -> u32
     ensures value { result ≡ store_unit_of kind }
     ensures some { 0 < result }
+    ensures divides { 4 % result ≡ 0 }
 {
     match kind {
         StoreKind::Byte | StoreKind::WordLeft | StoreKind::WordRight => 1,

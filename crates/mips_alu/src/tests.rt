@@ -4,7 +4,7 @@ use crate::{
     split_right, stored_word,
 };
 use base_words::{
-    AluOp, Cond, Exception, HiLo, Instr, LoadKind, MulOp, Register, Regs, Request, ShiftOp,
+    AluOp, Cond, Cp0Op, Exception, HiLo, Instr, LoadKind, MulOp, Register, Regs, Request, ShiftOp,
     StoreKind, Untaken,
 };
 
@@ -193,7 +193,31 @@ fn instructions_lead_on(rt: HostRuntime) {
         value: 7,
     };
     assert_eq!(rt; execute(&store, &mut after), Ok(asked));
+    assert_eq!(rt; after, regs, "the registers wait for memory");
+    let eret = Instr::Cp0(Cp0Op::ExceptionReturn);
+    assert_eq!(rt;
+        execute(&eret, &mut after),
+        Err(Exception::ReservedInstruction),
+        "a return in a delay slot"
+    );
+    assert_eq!(rt; execute(&Instr::Sync, &mut after), Ok(Request::Nothing));
     assert_eq!(rt; after.pc, 0xC000_0100, "a delay slot leads on");
+    assert_eq!(rt; after.slot, None);
+    assert_eq!(rt;
+        execute(&eret, &mut after),
+        Ok(Request::System(Cp0Op::ExceptionReturn))
+    );
+    let moves = Instr::MoveToCp0 {
+        rt: Register::new(2),
+        rd: Register::new(12),
+    };
+    assert_eq!(rt;
+        execute(&moves, &mut after),
+        Ok(Request::WriteCp0 {
+            number: Register::new(12),
+            value: 7,
+        })
+    );
     let branch = Instr::Branch {
         cond: Cond::NotEqual,
         untaken: Untaken::PastSlot,

@@ -1,5 +1,5 @@
 //! Coprocessor 0 as the rest of the processor uses it.
-ghost use Rattle.std.specs.Prelude.{◌≡◌, false};
+ghost use Rattle.std.specs.Prelude.{◌≡◌, ◌<◌, false};
 ghost use Rattle.base_words.specs.Coprocessor.{at_reset as at_reset_of, register_at, reads, writes, probe_answered, in_user_mode, interrupts, line_set, ticked, next_random as next_random_of, with_line as with_line_of};
 ghost use Rattle.base_words.specs.Exception.{entered, vector as vector_of, handling, with_restart, with_details};
 
@@ -56,6 +56,7 @@ fn keep_details(registers: &mut Cp0Registers, told: Details)
 }
 
 /// Random after a step: it counts down to Wired, and then begins again.
+#[inline]
 fn next_random(random: EntryNumber, wired: EntryNumber) -> EntryNumber
     ensures { result ≡ next_random_of random wired }
 {
@@ -129,6 +130,7 @@ impl Cp0 {
     }
 
     /// A step is done: Random and Count move on, and the timer interrupts where Count comes to Compare.
+    #[inline]
     pub fn tick(&mut self)
         ensures { self.new ≡ ticked self.old }
     {
@@ -140,6 +142,7 @@ impl Cp0 {
     }
 
     /// Whether an interrupt is enabled and pending.
+    #[inline]
     pub fn pending(&self) -> bool
         ensures { result ≡ interrupts self.now }
     {
@@ -150,6 +153,7 @@ impl Cp0 {
     }
 
     /// Whether user code runs, and no exception is being handled.
+    #[inline]
     pub fn is_user(&self) -> bool
         ensures { result ≡ in_user_mode self.now.status }
     {
@@ -157,10 +161,27 @@ impl Cp0 {
     }
 
     /// The address space of what runs (ASID).
+    #[inline]
     pub fn asid(&self) -> u8
         ensures { result ≡ self.now.entry_hi.asid }
     {
         self.registers.entry_hi.asid
+    }
+
+    /// The entry of the TLB that Index names, below 64.
+    pub fn index(&self) -> u8
+        ensures entry { result ≡ self.now.index.entry }
+        ensures within { result < 64 }
+    {
+        self.registers.index.entry.value() as u8
+    }
+
+    /// The entry of the TLB that Random names, below 64.
+    pub fn random(&self) -> u8
+        ensures entry { result ≡ self.now.random }
+        ensures within { result < 64 }
+    {
+        self.registers.random.value() as u8
     }
 
     /// Sets a line on or off: IP2 is console input, IP3 a packet, IP4 another virtual processor. The other interrupts

@@ -1,14 +1,15 @@
 -- The turns of a slice, one after the other.
-use Rattle.std.proofs.Common.{◌≡◌, ◌≢◌, ℕ, ◌+◌, List, [], ◌∷◌, ◌++◌, Bool, true, false, Option, Some, None, replicate, refl, ap, sym, ◌∙◌, subst, append_assoc, inl, inr}
+use Rattle.std.proofs.Common.{◌≡◌, ◌≢◌, ℕ, ◌+◌, List, [], ◌∷◌, ◌++◌, Bool, true, false, Option, Some, None, replicate, refl, ap, sym, ◌∙◌, subst, append_assoc}
 use Rattle.std.proofs.lemmas.List.{append-nil, replicate_more}
 use Rattle.base_words.specs.declared.ids.ProcId.{ProcId}
 use Rattle.base_words.specs.declared.ids.VcpuId.{VcpuId}
 use Rattle.base_words.specs.declared.events.Event.{Event}
 use Rattle.base_words.specs.declared.events.Event.TheVariants.{Load, Unload, Emulate, End as Ending}
 use Rattle.base_words.specs.declared.events.End.{End}
-use Rattle.base_words.specs.declared.events.End.TheVariants.{Halted, Budget, Unbuilt}
-use Rattle.base_words.specs.OwnStep.{vcpu}
-use Rattle.isolation.specs.GuestState.{GuestState, Processor, processor, content, with_content, with_loaded, all_halted}
+use Rattle.base_words.specs.declared.events.End.TheVariants.{Halted, Budget}
+use Rattle.private_machine.specs.PrivateMachine.{vcpu}
+use Rattle.private_machine.specs.OwnStep.{own_step}
+use Rattle.isolation.specs.GuestState.{GuestState, Processor, processor, with_machine, with_loaded, all_halted}
 use Rattle.isolation.proofs.Runs.{Run-append}
 use Rattle.guest_core.specs.GuestView.{Monitored}
 use Rattle.guest_core.specs.GuestCalls.{Extends, Steps, HasHalted, HasEnded, step_entries}
@@ -67,16 +68,8 @@ after_one now new p v step =
     let a = step.run.0 in
     let m = step.run.1 in
     let row = step.run.3 in
-    let is : new.state ≡ with_content a row.machine = step.run.4 ∙ row.after in
+    let is : new.state ≡ with_machine a (own_step a.machine v.0) = step.run.4 ∙ row.after in
     (ap (λ (s : GuestState). s.ended) is ∙ ap (λ (s : GuestState). s.ended) step.run.2, ap (λ (s : GuestState). s.processors) is ∙ ap (λ (s : GuestState). s.processors) step.run.2)
-
--- after an end
-after_end : (now new : Monitored) (end : End) → Extends now new (Ending end ∷ []) → (new.state.ended ≡ Some end) × (new.state.processors ≡ now.state.processors)
-after_end now new end step =
-    let a = step.run.0 in
-    let row = step.run.3 in
-    let is : new.state ≡ record a { ended = Some end } = step.run.4 ∙ row.after in
-    (ap (λ (s : GuestState). s.ended) is, ap (λ (s : GuestState). s.processors) is ∙ ap (λ (s : GuestState). s.processors) step.run.2)
 
 -- after a step with which the guest ends
 after_two : (now new : Monitored) (p : ProcId) (v : VcpuId) (end : End) → Extends now new (Emulate p v ∷ Ending end ∷ []) → (new.state.ended ≡ Some end) × (new.state.processors ≡ now.state.processors)
@@ -102,45 +95,31 @@ SoFar-stepped old now new item n far steps =
     let which : steps.v ≡ v = (let same : Some steps.v.0 ≡ Some v.0 = sym steps.runs.loaded ∙ far.loaded in same_vcpu steps.v v (cc)) in
     let goal : Bool → Type 0 = λ b. Extends now new (step_entries p v b) → SoFar old item (n + 1) new in
     let stays : new.state.processors ≡ now.state.processors → (processor new.state p.0).loaded ≡ Some v.0 = λ same. ap (λ (ps : List Processor). loaded_on ps p.0) same ∙ far.loaded in
-    (elim (all_halted new.state.vcpus) as (λ b. goal b) [
+    (elim (all_halted new.state.machine.vcpus) as (λ b. goal b) [
       | true ↦ λ step. let after = after_two now new p v Halted step in
           SoFar-steps old now new item n (Ending Halted ∷ []) far steps.not_ended step (Halted, refl, after.0, (λ h. cc)) (stays after.1)
       | false ↦ λ step. let after = after_one now new p v step in
           SoFar-steps old now new item n [] far steps.not_ended step (after.0 ∙ steps.not_ended) (stays after.1)
-    ]) (subst (λ (u : VcpuId). Extends now new (step_entries p u (all_halted new.state.vcpus))) which steps.extends)
+    ]) (subst (λ (u : VcpuId). Extends now new (step_entries p u (all_halted new.state.machine.vcpus))) which steps.extends)
 
--- a turn that found the guest ended, or ended it
-pub SoFar-ended : (old now new : Monitored) (item : RunItem) (n : ℕ) (end : End) → SoFar old item n now → HasEnded now end new
+-- a turn that found the guest ended
+pub SoFar-ended : (old now new : Monitored) (item : RunItem) (n : ℕ) (end : End) → SoFar old item n now → HasEnded now item.processor end new
     → SoFar old item n new × (new.state.ended ≡ Some end) × (end ≢ Budget)
-SoFar-ended old now new item n end far (inl before) =
-    (subst (λ (x : Monitored). SoFar old item n x) (sym before.1) far, ap (λ (x : Monitored). x.state.ended) before.1 ∙ before.0, not_budget far.tail now.state.ended end far.ends before.0)
-SoFar-ended old now new item n end far (inr ends) =
-    let e = Emulate item.processor item.vcpu in
-    let word = ends.0 in
-    let is : end ≡ Unbuilt word = ends.1 in
-    let not : end ≢ Budget = λ h. cc in
-    let after = after_end now new end ends.2 in
-    let entry : Extends now new (Ending (Unbuilt word) ∷ []) = subst (λ (x : End). Extends now new (Ending x ∷ [])) is ends.2 in
-    let none : now.state.ended ≡ None = ap (λ (s : GuestState). s.ended) (sym entry.run.2) ∙ entry.run.3.cause.goes_on.not_ended in
-    let before : Extends old now (replicate n e ++ []) = subst (λ (xs : List Event). Extends old now (replicate n e ++ xs)) (no_tail far.tail now.state.ended far.ends none) far.extends in (
-      record {
-        tail = Ending end ∷ [];
-        extends = subst (λ (xs : List Event). Extends old new (xs ++ (Ending end ∷ []))) (append-nil (replicate n e)) (Extends-append old now new (replicate n e ++ []) (Ending end ∷ []) before ends.2);
-        ends = (end, refl, after.0, not);
-        loaded = ap (λ (ps : List Processor). loaded_on ps item.processor.0) after.1 ∙ far.loaded;
-      },
-      after.0,
-      not,
-    )
+SoFar-ended old now new item n end far has =
+    (subst (λ (x : Monitored). SoFar old item n x) (sym has.same) far, ap (λ (x : Monitored). x.state.ended) has.same ∙ has.ended, not_budget far.tail now.state.ended end far.ends has.ended)
+
+-- the turns don't end a guest as the end of the plan does
+pub SoFar-before : (old now : Monitored) (item : RunItem) (n : ℕ) → SoFar old item n now → now.state.ended ≢ Some Budget
+SoFar-before old now item n far is = not_budget far.tail now.state.ended Budget far.ends is refl
 
 -- a turn that found the virtual processor halted
 pub SoFar-halted : (old now new : Monitored) (item : RunItem) (n : ℕ) → SoFar old item n now → HasHalted now item.processor new
-    → SoFar old item n new × ((vcpu (content new.state) item.vcpu.0).halted ≡ true)
+    → SoFar old item n new × ((vcpu new.state.machine item.vcpu.0).halted ≡ true)
 SoFar-halted old now new item n far has =
     let same : Some has.v ≡ Some item.vcpu.0 = sym has.loaded ∙ far.loaded in
     let which : has.v ≡ item.vcpu.0 = cc in (
       subst (λ (x : Monitored). SoFar old item n x) (sym has.same) far,
-      ap (λ (x : Monitored). (vcpu (content x.state) item.vcpu.0).halted) has.same ∙ ap (λ (v : ℕ). (vcpu (content now.state) v).halted) (sym which) ∙ has.halted,
+      ap (λ (x : Monitored). (vcpu x.state.machine item.vcpu.0).halted) has.same ∙ ap (λ (v : ℕ). (vcpu now.state.machine v).halted) (sym which) ∙ has.halted,
     )
 
 -- an unload changes neither how the guest ended nor what it sees

@@ -1,13 +1,13 @@
 -- When each status comes.
 use Rattle.std.proofs.Common.{◌≡◌, ◌⊎◌, ℕ, List, length, Bool, true, false, if◌then◌else◌, nat_le, Option, Some, None, Result, Ok, Err, refl, ap, sym, ◌∙◌, subst, arith, inl, inr}
 use Rattle.base_words.specs.Counts.{Rose}
-use Rattle.base_words.specs.PrivateRun.{Image}
+use Rattle.private_machine.specs.PrivateRun.{Image}
 use Rattle.outside_io.specs.Reading.{Told, Absent, Holds, ShelfView, MayBe}
 use Rattle.outside_io.specs.Writing.{SinkView}
 use Rattle.guest_core.specs.declared.records.RunRecord.{RunRecord}
 use Rattle.monitor_run.specs.declared.faults.Fault.{Fault}
 use Rattle.monitor_run.specs.declared.faults.Fault.TheVariants.{Words, Read, Long, BadImage}
-use Rattle.monitor_run.specs.declared.faults.ImageFault.{ImageFault}
+use Rattle.elf_image.specs.declared.fault.ImageFault.{ImageFault}
 use Rattle.monitor_run.specs.Words.{RawForm, form_of}
 use Rattle.monitor_run.specs.Accepted.{raw_image}
 use Rattle.monitor_run.specs.Chain.{Job, Monitored, Files, FailedAt, ◌>>=◌, fitting, of_guest, longest_image, raw_job, job_of}

@@ -5,12 +5,12 @@ use Rattle.std.proofs.lemmas.Bool.Decides.{nat_tests}
 use Rattle.base_words.specs.declared.events.Event.{Event}
 use Rattle.base_words.specs.declared.events.Event.TheVariants.{Load, Unload, Emulate, End as Ending}
 use Rattle.base_words.specs.declared.events.End.TheVariants.{Budget}
-use Rattle.base_words.specs.OwnStep.{PrivateMachine, vcpu}
-use Rattle.base_words.specs.PrivateRun.{Image, booted, private_run}
-use Rattle.isolation.specs.GuestState.{GuestState, admitted, content}
+use Rattle.private_machine.specs.PrivateMachine.{PrivateMachine, vcpu}
+use Rattle.private_machine.specs.PrivateRun.{Image, booted, private_run}
+use Rattle.isolation.specs.GuestState.{GuestState, admitted}
 use Rattle.isolation.specs.OwnHistory.{own}
 use Rattle.isolation.specs.Run.{Run}
-use Rattle.isolation.proofs.Runs.{content-run}
+use Rattle.isolation.proofs.Runs.{machine-run}
 use Rattle.guest_core.specs.GuestView.{Monitored as Guest}
 use Rattle.guest_core.specs.GuestCalls.{Extends, Leaves}
 use Rattle.guest_core.specs.declared.records.GuestRecord.{GuestRecord}
@@ -38,7 +38,7 @@ record Closed (old : Guest) (item : RunItem) (slice : SliceRecord) (tail : List 
   last : List Event
   ends : AreEnds last
   extends : Extends old over (shape item slice.steps tail last)
-  same : content over.state ≡ content ran.state
+  same : over.state.machine ≡ ran.state.machine
   ended : ran.state.ended ≢ None → over.state.ended ≡ ran.state.ended
 
 behind : (item : RunItem) (n : ℕ) (tail last : List Event) → shape item n tail [] ++ last ≡ shape item n tail last
@@ -52,15 +52,15 @@ closed old ran over item slice it (inl was) = record {
   last = [];
   ends = tt;
   extends = subst (λ (g : Guest). Extends old g (shape item slice.steps it.tail [])) (sym was.1) it.extends;
-  same = ap (λ (g : Guest). content g.state) was.1;
+  same = ap (λ (g : Guest). g.state.machine) was.1;
   ended = λ some. ap (λ (g : Guest). g.state.ended) was.1;
 }
 closed old ran over item slice it (inr now) = record {
   last = Ending Budget ∷ [];
-  ends = tt;
+  ends = ((Budget, refl), tt);
   extends = subst (λ (xs : List Event). Extends old over xs) (behind item slice.steps it.tail (Ending Budget ∷ []))
       (Extends-append old ran over (shape item slice.steps it.tail []) (Ending Budget ∷ []) it.extends now.1);
-  same = ap (λ (s : GuestState). content s) (now.1.run.4 ∙ now.1.run.3.after) ∙ ap (λ (s : GuestState). content s) now.1.run.2;
+  same = ap (λ (s : GuestState). s.machine) (now.1.run.4 ∙ now.1.run.3.after) ∙ ap (λ (s : GuestState). s.machine) now.1.run.2;
   ended = λ some. absurd (some now.0);
 }
 
@@ -99,7 +99,7 @@ unloaded-shape : (item : RunItem) (n : ℕ) (tail last : List Event) → AreEnds
 unloaded-shape item n tail last ends lasts =
     let p = item.processor in
     let steps = replicate n (Emulate p item.vcpu) in
-    let closing : AreUnloaded (Unload p ∷ last) = subst (λ (xs : List Event). AreUnloaded xs) (append-nil last) (AreUnloaded-ends last [] lasts tt) in (
+    let closing : AreUnloaded (Unload p ∷ last) = (tt, subst (λ (xs : List Event). AreUnloaded xs) (append-nil last) (AreUnloaded-ends last [] lasts tt)) in (
       HasUnload-behind p steps (tail ++ (Unload p ∷ last)) (HasUnload-behind p tail (Unload p ∷ last) (inl refl)),
       AreUnloaded-steps n p item.vcpu (tail ++ (Unload p ∷ last)) (AreUnloaded-ends tail (Unload p ∷ last) ends closing),
     )
@@ -112,8 +112,8 @@ no_guest p g v steps n =
 
 -- a slice's cause is its cause in the end
 HasCause-over : (image : Image) (steps : ℕ) (slice : SliceRecord) (ran over : Guest) (left : GuestRecord) (cause : Cut) → Leaves over left
-    → content over.state ≡ private_run (booted image 1) (own left.journal) → content over.state ≡ content ran.state → (ran.state.ended ≢ None → over.state.ended ≡ ran.state.ended)
-    → CutShort (the_item steps) slice.steps ran.state cause → HasCause (booted image 1 ∷ []) (left ∷ []) (the_item steps) slice.steps cause
+    → over.state.machine ≡ private_run (booted image 1 [] []) (own left.journal) → over.state.machine ≡ ran.state.machine → (ran.state.ended ≢ None → over.state.ended ≡ ran.state.ended)
+    → CutShort (the_item steps) slice.steps ran.state cause → HasCause (booted image 1 [] [] ∷ []) (left ∷ []) (the_item steps) slice.steps cause
 HasCause-over image steps slice ran over left Whole leaves is same ended short = short
 HasCause-over image steps slice ran over left VcpuHalted leaves is same ended short =
     (short.0, ap (λ (m : PrivateMachine). (vcpu m 0).halted) (sym is ∙ same) ∙ short.1)
@@ -125,7 +125,7 @@ HasCause-over image steps slice ran over left (GuestEnded end) leaves is same en
 
 -- a guest at its start
 abbrev pub start : Image → Guest
-start image = record { state = admitted (booted image 1) 1; journal = [] }
+start image = record { state = admitted (booted image 1 [] []) 1; journal = [] }
 
 -- the record of a guest that ran its item and is over
 pub IsWhole-raw : (image : Image) (steps : ℕ) (slice : SliceRecord) (ran over : Guest) (left : GuestRecord) → RanItem (start image) (the_item steps) slice ran → IsOver ran over → Leaves over left
@@ -136,10 +136,10 @@ IsWhole-raw image steps slice ran over left it is_over leaves =
     let done = closed (start image) ran over item slice it is_over in
     let tail_ends = AreEnds-tail it.tail ran.state.ended it.ends in
     let journal : left.journal ≡ shape item n it.tail done.last = leaves.journal ∙ done.extends.journal in
-    let run : Run (admitted (booted image 1) 1) left.journal over.state = subst (λ (xs : List Event). Run (admitted (booted image 1) 1) xs over.state) (sym journal) done.extends.run in
-    let own_part : content over.state ≡ private_run (booted image 1) (own left.journal) = content-run (admitted (booted image 1) 1) over.state left.journal run in
+    let run : Run (admitted (booted image 1 [] []) 1) left.journal over.state = subst (λ (xs : List Event). Run (admitted (booted image 1 [] []) 1) xs over.state) (sym journal) done.extends.run in
+    let own_part : over.state.machine ≡ private_run (booted image 1 [] []) (own left.journal) = machine-run (admitted (booted image 1 [] []) 1) over.state left.journal run in
     record {
-      guests = (record { state = over.state; run = run; end = leaves.end; console = leaves.console ∙ ap (λ (m : PrivateMachine). m.console) own_part }, tt);
+      guests = (record { state = over.state; run = run; end = leaves.end; console = leaves.console ∙ ap (λ (m : PrivateMachine). m.devices.console) own_part }, tt);
       due = record {
         sliced = (it.of, HasCause-over image steps slice ran over left slice.cause leaves own_part done.same done.ended it.cause, tt);
         steps = λ p g v. (elim g as (λ (g : ℕ). steps_in p v (journal_of (left ∷ []) g) ≡ sliced_steps p g v (plan_of (Monitored image steps)) (slice ∷ [])) [

@@ -1,11 +1,11 @@
 -- What a run is, and why one is refused: one stage after the other, where the first refusal counts.
 use Rattle.std.specs.Prelude.{◌≡◌, ℕ, nat_le, List, length, if◌then◌else◌, Option, Some, None, Result, Ok, Err, ◌⊎◌}
 use Rattle.base_words.specs.Counts.{Rose}
-use Rattle.base_words.specs.PrivateRun.{Image}
+use Rattle.private_machine.specs.PrivateRun.{Image}
 use Rattle.outside_io.specs.Reading.{ShelfView, MayBe, Absent}
 use Rattle.monitor_run.specs.declared.faults.Fault.{Fault}
 use Rattle.monitor_run.specs.declared.faults.Fault.TheVariants.{Words, Read, Long, BadImage}
-use Rattle.monitor_run.specs.declared.faults.ImageFault.{ImageFault}
+use Rattle.elf_image.specs.declared.fault.ImageFault.{ImageFault}
 use Rattle.monitor_run.specs.Words.{RawForm, form_of}
 use Rattle.monitor_run.specs.Accepted.{raw_image}
 

@@ -1,7 +1,7 @@
 -- The claim: what the top call's status, output and record say.
 use Rattle.std.specs.Prelude.{◌≡◌, ◌⊎◌, ℕ, List, [], ◌∷◌, Some, Result, Ok, Err}
-use Rattle.base_words.specs.OwnStep.{PrivateMachine}
-use Rattle.base_words.specs.PrivateRun.{booted, private_run}
+use Rattle.private_machine.specs.PrivateMachine.{PrivateMachine}
+use Rattle.private_machine.specs.PrivateRun.{booted, private_run}
 use Rattle.isolation.specs.GuestState.{GuestState, admitted}
 use Rattle.isolation.specs.OwnHistory.{own}
 use Rattle.isolation.specs.Run.{Run}
@@ -22,7 +22,7 @@ nothing = record { guests = []; slices = [] }
 
 -- the guests' private machines at their start
 abbrev pub starts_of : Job → List PrivateMachine
-starts_of (Monitored image steps) = booted image 1 ∷ []
+starts_of (Monitored image steps) = booted image 1 [] [] ∷ []
 
 -- how many processors the machine has
 abbrev pub processors_of : Job → ℕ
@@ -39,7 +39,7 @@ pub record IsReplayed (start : PrivateMachine) (processors : ℕ) (guest : Guest
   pub state : GuestState
   pub run : Run (admitted start processors) guest.journal state
   pub end : state.ended ≡ Some guest.end
-  pub console : guest.console ≡ (private_run start (own guest.journal)).console
+  pub console : guest.console ≡ (private_run start (own guest.journal)).devices.console
 
 abbrev pub AreReplayed : List PrivateMachine → ℕ → List GuestRecord → Type 0
 AreReplayed [] processors [] = Unit {0}

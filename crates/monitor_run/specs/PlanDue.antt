@@ -1,12 +1,12 @@
 -- A record is due for a plan: it has every planned step up to a named end.
-use Rattle.std.specs.Prelude.{◌≡◌, ◌≢◌, ◌⊎◌, ℕ, zero, suc, ◌+◌, ◌<◌, ◌≤◌, ◌==◌, ◌&&◌, List, [], ◌∷◌, Bool, true, if◌then◌else◌}
+use Rattle.std.specs.Prelude.{◌≡◌, ◌≢◌, ◌⊎◌, ℕ, zero, suc, ◌+◌, ◌<◌, ◌≤◌, ◌==◌, ◌&&◌, List, [], ◌∷◌, Bool, true, false, if◌then◌else◌}
 use Rattle.base_words.specs.declared.ids.ProcId.{ProcId}
 use Rattle.base_words.specs.declared.events.Event.{Event}
-use Rattle.base_words.specs.declared.events.Event.TheVariants.{Load, Unload, Emulate, End as Ending}
+use Rattle.base_words.specs.declared.events.Event.TheVariants.{Direct, Refill, Emulate, Begin, Ack, Finish, Load, Unload, PacketIn, Discard, Skip, CellFails, End as Ending}
 use Rattle.base_words.specs.declared.events.End.{End}
 use Rattle.base_words.specs.declared.events.End.TheVariants.{Budget}
-use Rattle.base_words.specs.OwnStep.{PrivateMachine, vcpu}
-use Rattle.base_words.specs.PrivateRun.{private_run}
+use Rattle.private_machine.specs.PrivateMachine.{PrivateMachine, vcpu}
+use Rattle.private_machine.specs.PrivateRun.{private_run}
 use Rattle.isolation.specs.OwnHistory.{own}
 use Rattle.guest_core.specs.declared.records.GuestRecord.{GuestRecord}
 use Rattle.guest_core.specs.declared.records.SliceRecord.{SliceRecord}
@@ -24,21 +24,46 @@ journal_of (guest ∷ guests) (suc g) = journal_of guests g
 abbrev pub is_of : ℕ → ℕ → ℕ → RunItem → Bool
 is_of p g v item = (item.processor.0 == p) && ((item.guest.0 == g) && (item.vcpu.0 == v))
 
+-- whether an entry is a step of a virtual processor on a processor, and whether it loads it there
+abbrev pub is_step_of : ℕ → ℕ → Event → Bool
+is_step_of p v (Direct q u) = (q.0 == p) && (u.0 == v)
+is_step_of p v (Refill q) = false
+is_step_of p v (Emulate q u) = (q.0 == p) && (u.0 == v)
+is_step_of p v (Begin page kind node by) = false
+is_step_of p v (Ack q page) = false
+is_step_of p v (Finish page) = false
+is_step_of p v (Load q u) = false
+is_step_of p v (Unload q) = false
+is_step_of p v (PacketIn place) = false
+is_step_of p v (Discard place) = false
+is_step_of p v (Skip place) = false
+is_step_of p v (CellFails cell) = false
+is_step_of p v (Ending end) = false
+
+abbrev pub is_load_of : ℕ → ℕ → Event → Bool
+is_load_of p v (Direct q u) = false
+is_load_of p v (Refill q) = false
+is_load_of p v (Emulate q u) = false
+is_load_of p v (Begin page kind node by) = false
+is_load_of p v (Ack q page) = false
+is_load_of p v (Finish page) = false
+is_load_of p v (Load q u) = (q.0 == p) && (u.0 == v)
+is_load_of p v (Unload q) = false
+is_load_of p v (PacketIn place) = false
+is_load_of p v (Discard place) = false
+is_load_of p v (Skip place) = false
+is_load_of p v (CellFails cell) = false
+is_load_of p v (Ending end) = false
+
 -- how many steps a journal has of a processor and a virtual processor
 abbrev pub steps_in : ℕ → ℕ → List Event → ℕ
 steps_in p v [] = 0
-steps_in p v (Load q u ∷ journal) = steps_in p v journal
-steps_in p v (Unload q ∷ journal) = steps_in p v journal
-steps_in p v (Emulate q u ∷ journal) = (if (q.0 == p) && (u.0 == v) then 1 else 0) + steps_in p v journal
-steps_in p v (Ending end ∷ journal) = steps_in p v journal
+steps_in p v (e ∷ journal) = (if is_step_of p v e then 1 else 0) + steps_in p v journal
 
 -- how often a journal loads a virtual processor on a processor
 abbrev pub loads_in : ℕ → ℕ → List Event → ℕ
 loads_in p v [] = 0
-loads_in p v (Load q u ∷ journal) = (if (q.0 == p) && (u.0 == v) then 1 else 0) + loads_in p v journal
-loads_in p v (Unload q ∷ journal) = loads_in p v journal
-loads_in p v (Emulate q u ∷ journal) = loads_in p v journal
-loads_in p v (Ending end ∷ journal) = loads_in p v journal
+loads_in p v (e ∷ journal) = (if is_load_of p v e then 1 else 0) + loads_in p v journal
 
 -- the steps of the slices of a processor, a guest and a virtual processor
 abbrev pub sliced_steps : ℕ → ℕ → ℕ → List RunItem → List SliceRecord → ℕ
@@ -53,18 +78,27 @@ items_of p g v (item ∷ plan) = (if is_of p g v item then 1 else 0) + items_of 
 -- a processor unloads what is loaded on it
 abbrev pub HasUnload : ProcId → List Event → Type 0
 HasUnload p [] = ⊥
-HasUnload p (Load q u ∷ journal) = HasUnload p journal
-HasUnload p (Unload q ∷ journal) = (q ≡ p) ⊎ HasUnload p journal
-HasUnload p (Emulate q u ∷ journal) = HasUnload p journal
-HasUnload p (Ending end ∷ journal) = HasUnload p journal
+HasUnload p (e ∷ journal) = (e ≡ Unload p) ⊎ HasUnload p journal
 
--- each load is followed by an unload
+-- what an entry loads is unloaded by a later one
+abbrev pub IsUnloaded : Event → List Event → Type 0
+IsUnloaded (Direct q u) journal = Unit {0}
+IsUnloaded (Refill q) journal = Unit {0}
+IsUnloaded (Emulate q u) journal = Unit {0}
+IsUnloaded (Begin page kind node by) journal = Unit {0}
+IsUnloaded (Ack q page) journal = Unit {0}
+IsUnloaded (Finish page) journal = Unit {0}
+IsUnloaded (Load q u) journal = HasUnload q journal
+IsUnloaded (Unload q) journal = Unit {0}
+IsUnloaded (PacketIn place) journal = Unit {0}
+IsUnloaded (Discard place) journal = Unit {0}
+IsUnloaded (Skip place) journal = Unit {0}
+IsUnloaded (CellFails cell) journal = Unit {0}
+IsUnloaded (Ending end) journal = Unit {0}
+
 abbrev pub AreUnloaded : List Event → Type 0
 AreUnloaded [] = Unit {0}
-AreUnloaded (Load p v ∷ journal) = HasUnload p journal × AreUnloaded journal
-AreUnloaded (Unload q ∷ journal) = AreUnloaded journal
-AreUnloaded (Emulate q u ∷ journal) = AreUnloaded journal
-AreUnloaded (Ending end ∷ journal) = AreUnloaded journal
+AreUnloaded (e ∷ journal) = IsUnloaded e journal × AreUnloaded journal
 
 -- a guest's machine after its own history
 abbrev pub machine_after : PrivateMachine → GuestRecord → PrivateMachine

@@ -1,12 +1,11 @@
 -- Stages that are proved against the chain: what their answer says of it.
-use Rattle.std.specs.Prelude.{◌≡◌, ℕ, ◌-◌, ◌*◌, ◌++◌, length, replicate, List, Result, Ok, Err}
+use Rattle.std.specs.Prelude.{◌≡◌, ℕ, List, Result, Ok, Err}
 use Rattle.outside_io.specs.Reading.{ShelfView}
-use Rattle.guest_core.specs.MachineView.{image_of}
+use Rattle.flat_machine.specs.FlatView.{start_of}
 use Rattle.monitor_run.specs.declared.faults.Fault.{Fault}
 use Rattle.monitor_run.specs.declared.faults.Fault.TheVariants.{Read, Long as TooLong}
 use Rattle.outside_io.specs.declared.shelf.ShelfFault.{ShelfFault}
 use Rattle.outside_io.specs.declared.shelf.ShelfFault.TheVariants.{Failed, Long, Memory}
-use Rattle.monitor_run.specs.Accepted.{raw_pages}
 use Rattle.monitor_run.specs.declared.faults.Refusal.{Refusal}
 use Rattle.monitor_run.specs.declared.faults.Refusal.TheVariants.{Fault as Faulty, Memory as NoMemory}
 use Rattle.monitor_run.specs.declared.job.Job.{Job}
@@ -25,7 +24,7 @@ seen f (Ok x) = Ok (f x)
 seen f (Err refusal) = Err refusal
 
 abbrev pub job_seen : Job → PlannedJob
-job_seen (Kept image steps) = Monitored (image_of image) steps
+job_seen (Kept image steps) = Monitored (start_of image) steps
 
 -- a read that failed was the shelf's fault
 abbrev pub IsCaused : {A : Type 0} → ShelfView → ShelfView → Result A Refusal → Type 0
@@ -46,9 +45,3 @@ FaultAt name Failed (Faulty fault) = fault ≡ Read name
 FaultAt name Long (Faulty fault) = fault ≡ TooLong name
 FaultAt name Memory (Faulty fault) = ⊥
 FaultAt name fault NoMemory = Unit {0}
-
--- bytes, and zeros up to the end of a raw guest's memory
-abbrev pub Pads : List ℕ → Result (List ℕ) Refusal → Type 0
-Pads bytes (Ok memory) = memory ≡ bytes ++ replicate (4096 * raw_pages - length bytes) 0
-Pads bytes (Err (Faulty fault)) = ⊥
-Pads bytes (Err NoMemory) = Unit {0}

@@ -1,31 +1,21 @@
 -- The printed text of a record, and of a refusal.
-use Rattle.std.specs.Prelude.{ℕ, ◌+◌, ◌/◌, ◌%◌, ◌^◌, nat_lt, List, [], ◌∷◌, ◌++◌, length, if◌then◌else◌, codes, decimal}
+use Rattle.std.specs.Prelude.{ℕ, ◌+◌, List, [], ◌∷◌, ◌++◌, length, codes, decimal}
 use Rattle.base_words.specs.declared.events.End.{End}
-use Rattle.base_words.specs.declared.events.End.TheVariants.{Halted, Budget, Unbuilt}
+use Rattle.base_words.specs.declared.events.End.TheVariants.{Halted, Budget, CellFailed}
 use Rattle.guest_core.specs.declared.records.GuestRecord.{GuestRecord}
 use Rattle.monitor_run.specs.declared.faults.Fault.{Fault}
 use Rattle.monitor_run.specs.declared.faults.Fault.TheVariants.{Words, Read, Long, BadImage}
-use Rattle.monitor_run.specs.declared.faults.ImageFault.{ImageFault}
-use Rattle.monitor_run.specs.declared.faults.ImageFault.TheVariants.{Short, Place}
+use Rattle.elf_image.specs.declared.fault.ImageFault.{ImageFault}
+use Rattle.elf_image.specs.declared.fault.ImageFault.TheVariants.{Short, Magic, Class, Order, Version, Kind, Processor, Headers, Interp, Segment, Place, Overlap, Entry, Memory}
 
 -- a line ends with a line feed
 abbrev pub line_end : List ℕ
 line_end = 10 ∷ []
 
--- a lower-case hexadecimal digit
-abbrev pub hex_digit : ℕ → ℕ
-hex_digit n = if nat_lt n 10 then 48 + n else 87 + n
-
--- a word in eight hexadecimal digits, the highest first
-abbrev pub hex_word : ℕ → List ℕ
-hex_word w =
-    hex_digit (w / 16 ^ 7 % 16) ∷ hex_digit (w / 16 ^ 6 % 16) ∷ hex_digit (w / 16 ^ 5 % 16) ∷ hex_digit (w / 16 ^ 4 % 16)
-    ∷ hex_digit (w / 16 ^ 3 % 16) ∷ hex_digit (w / 16 ^ 2 % 16) ∷ hex_digit (w / 16 % 16) ∷ hex_digit (w % 16) ∷ []
-
 abbrev pub end_text : End → List ℕ
 end_text Halted = codes "halted"
 end_text Budget = codes "budget"
-end_text (Unbuilt word) = codes "unbuilt " ++ hex_word word
+end_text (CellFailed cell) = codes "cell " ++ decimal cell.0
 
 -- the line before a guest's console: its number, and how many bytes it printed
 abbrev pub console_line : ℕ → ℕ → List ℕ
@@ -45,7 +35,19 @@ guest_texts number (guest ∷ guests) = guest_text number guest ++ guest_texts (
 
 abbrev pub image_fault_text : ImageFault → List ℕ
 image_fault_text Short = codes "short"
+image_fault_text Magic = codes "magic"
+image_fault_text Class = codes "class"
+image_fault_text Order = codes "order"
+image_fault_text Version = codes "version"
+image_fault_text Kind = codes "kind"
+image_fault_text Processor = codes "processor"
+image_fault_text Headers = codes "headers"
+image_fault_text Interp = codes "interp"
+image_fault_text (Segment n) = codes "segment " ++ decimal n
 image_fault_text (Place n) = codes "place " ++ decimal n
+image_fault_text (Overlap n m) = codes "overlap " ++ (decimal n ++ (codes " " ++ decimal m))
+image_fault_text Entry = codes "entry"
+image_fault_text Memory = codes "memory"
 
 -- the line of a refusal
 abbrev pub fault_line : Fault → List ℕ

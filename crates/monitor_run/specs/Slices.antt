@@ -4,8 +4,8 @@ use Rattle.base_words.specs.declared.events.Event.{Event}
 use Rattle.base_words.specs.declared.events.Event.TheVariants.{Load, Unload, Emulate, End as Ending}
 use Rattle.base_words.specs.declared.events.End.{End}
 use Rattle.base_words.specs.declared.events.End.TheVariants.{Budget}
-use Rattle.base_words.specs.OwnStep.{vcpu}
-use Rattle.isolation.specs.GuestState.{GuestState, processor, content}
+use Rattle.private_machine.specs.PrivateMachine.{vcpu}
+use Rattle.isolation.specs.GuestState.{GuestState, processor}
 use Rattle.guest_core.specs.GuestView.{Monitored}
 use Rattle.guest_core.specs.GuestCalls.{Extends}
 use Rattle.guest_core.specs.declared.records.SliceRecord.{SliceRecord}
@@ -29,7 +29,7 @@ pub record SoFar (old : Monitored) (item : RunItem) (steps : ℕ) (new : Monitor
 -- why the slice ended
 abbrev pub CutShort : RunItem → ℕ → GuestState → Cut → Type 0
 CutShort item steps s Whole = steps ≡ item.steps
-CutShort item steps s VcpuHalted = (steps < item.steps) × ((vcpu (content s) item.vcpu.0).halted ≡ true)
+CutShort item steps s VcpuHalted = (steps < item.steps) × ((vcpu s.machine item.vcpu.0).halted ≡ true)
 CutShort item steps s (GuestEnded end) = (steps < item.steps) × (s.ended ≡ Some end) × (end ≢ Budget)
 
 -- the slice that was made

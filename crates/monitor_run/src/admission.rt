@@ -1,16 +1,15 @@
 //! From the words and the files to what is to be done.
-ghost use Rattle.std.specs.Prelude.{◌≡◌, ◌≤◌, length};
 ghost use Rattle.monitor_run.specs.Words.{texts};
 ghost use Rattle.monitor_run.specs.Accepted.{raw_image as accepted};
 ghost use Rattle.monitor_run.specs.Chain.{content, job_of, of_guest, raw_job as planned};
-ghost use Rattle.monitor_run.specs.Reads.{Gives, ReadsAs, seen, job_seen, FaultAt, Pads};
-ghost use Rattle.guest_core.specs.MachineView.{image_of};
+ghost use Rattle.monitor_run.specs.Reads.{Gives, ReadsAs, seen, job_seen, FaultAt};
+ghost use Rattle.flat_machine.specs.FlatView.{start_of};
 
 use crate::job::Job;
 use crate::words::read_form;
-use crate::{Fault, ImageFault, Refusal};
+use crate::{Fault, Refusal};
 use base_words::{Bytes, GuestId, Name};
-use guest_core::Image;
+use elf_image::{Image, ImageFault, load_raw};
 use outside_io::{Shelf, ShelfFault};
 use std::alloc::Global;
 
@@ -18,8 +17,6 @@ use std::alloc::Global;
 const LONGEST_IMAGE: u64 = 16_777_216;
 /// The pages of a raw guest.
 const RAW_PAGES: u32 = 16;
-/// Where its first instruction stands.
-const RAW_ENTRY: u32 = 0xC000_0000;
 
 /// A fault at a file.
 fn at_file(alloc: Global, name: &str, fault: ShelfFault) -> Refusal
@@ -50,42 +47,22 @@ fn read_file<S: Shelf>(
     }
 }
 
-/// The file's bytes and then zeros, in whole pages.
-fn padded(bytes: Bytes) -> Result<Bytes, Refusal>
-    requires { length bytes ≤ 65536 }
-    ensures { Pads bytes result }
-{
-    let mut memory = bytes.into_vec();
-    let zeros = (RAW_PAGES * 4096) as usize - memory.len();
-    memory.reserve(zeros)?;
-    for _ in 0..zeros {
-        memory.push(0)?;
-    }
-    Ok(Bytes::from_vec(memory))
-}
-
 /// The image of a raw guest, or its fault.
-fn raw_image(bytes: Bytes) -> Result<Image, Refusal>
-    ensures { Gives (seen image_of result) (of_guest 0 (accepted bytes)) }
+fn raw_image(alloc: Global, bytes: &[u8]) -> Result<Image, Refusal>
+    ensures { Gives (seen start_of result) (of_guest 0 (accepted bytes.now)) }
 {
-    if bytes.len() % 4 != 0 {
-        return Err(Refusal::Fault(Fault::BadImage(GuestId(0), ImageFault::Short)));
+    match load_raw(alloc, bytes, RAW_PAGES) {
+        Ok(image) => Ok(image),
+        Err(ImageFault::Memory) => Err(Refusal::Memory),
+        Err(fault) => Err(Refusal::Fault(Fault::BadImage(GuestId(0), fault))),
     }
-    if bytes.len() > (RAW_PAGES * 4096) as usize {
-        return Err(Refusal::Fault(Fault::BadImage(GuestId(0), ImageFault::Place(0))));
-    }
-    Ok(Image {
-        entry: RAW_ENTRY,
-        pages: RAW_PAGES,
-        memory: padded(bytes)?,
-    })
 }
 
 /// A raw guest of these bytes, for so many steps.
-fn raw_job(bytes: Bytes, steps: u64) -> Result<Job, Refusal>
-    ensures { Gives (seen job_seen result) (planned steps bytes) }
+fn raw_job(alloc: Global, bytes: &[u8], steps: u64) -> Result<Job, Refusal>
+    ensures { Gives (seen job_seen result) (planned steps bytes.now) }
 {
-    match raw_image(bytes) {
+    match raw_image(alloc, bytes) {
         Ok(image) => Ok(Job::Monitored { image, steps }),
         Err(refusal) => Err(refusal),
     }
@@ -100,7 +77,7 @@ pub fn admit<S: Shelf>(alloc: Global, words: &[String], shelf: &mut S) -> Result
         None => return Err(Refusal::Fault(Fault::Words)),
     };
     match read_file(alloc, shelf, form.file, LONGEST_IMAGE) {
-        Ok(bytes) => raw_job(bytes, form.steps),
+        Ok(bytes) => raw_job(alloc, bytes.as_slice(), form.steps),
         Err(refusal) => Err(refusal),
     }
 }

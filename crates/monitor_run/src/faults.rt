@@ -3,19 +3,8 @@ ghost use Rattle.std.specs.Prelude.{◌≡◌};
 ghost use Rattle.monitor_run.specs.declared.faults.Refusal.TheVariants.{Memory};
 
 use base_words::{GuestId, Name};
+use elf_image::ImageFault;
 use std::alloc::{AllocError, AllocFailed};
-use thiserror::Error;
-
-/// Why an image is refused.
-#[derive(Clone, Copy, Debug, PartialEq, Eq, Error)]
-pub enum ImageFault {
-    /// The file isn't whole words.
-    #[error("short")]
-    Short,
-    /// The segment of this number doesn't lie within the guest's memory.
-    #[error("place {0}")]
-    Place(u32),
-}
 
 /// Why a job is refused.
 #[derive(Debug, Drop)]

@@ -1,5 +1,5 @@
 //! What is to be done.
-use guest_core::Image;
+use elf_image::Image;
 
 /// What is to be done.
 #[derive(Debug, Drop)]

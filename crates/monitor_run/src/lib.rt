@@ -12,7 +12,8 @@ mod runner;
 mod top;
 mod words;
 
-pub use faults::{Fault, ImageFault, Refusal};
+pub use elf_image::ImageFault;
+pub use faults::{Fault, Refusal};
 pub use job::Job;
 pub use law::exactly;
 pub use plan::RunItem;

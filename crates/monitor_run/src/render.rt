@@ -45,7 +45,12 @@ fn put_guest<K: Sink>(
 {
     let head = console_line(alloc, number, guest.console.len())?;
     let end = end_line(alloc, guest.end)?;
-    put_three(sink, head.as_bytes(), guest.console.as_slice(), &end)
+    put_three(
+        sink,
+        head.as_bytes(),
+        guest.console.as_slice(),
+        end.as_bytes(),
+    )
 }
 
 /// Puts the guests' texts, in order.

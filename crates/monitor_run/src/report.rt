@@ -1,50 +1,22 @@
 //! The printed texts.
-ghost use Rattle.std.specs.Prelude.{◌≡◌, ◌^◌, ◌<◌, string_bytes, IfOk};
-ghost use Rattle.monitor_run.specs.Report.{console_line as console_line_of, end_line as end_line_of, end_text as end_text_of, fault_line as fault_line_of, hex_digit as hex_digit_of, hex_word as hex_word_of, image_fault_text as image_fault_text_of};
+ghost use Rattle.std.specs.Prelude.{◌≡◌, string_bytes, IfOk};
+ghost use Rattle.monitor_run.specs.Report.{console_line as console_line_of, end_line as end_line_of, end_text as end_text_of, fault_line as fault_line_of, image_fault_text as image_fault_text_of};
 
-use crate::{Fault, ImageFault};
+use crate::Fault;
 use base_words::End;
+use elf_image::ImageFault;
 use std::alloc::{AllocError, Global};
 
-/// A lower-case hexadecimal digit.
-fn hex_digit(value: u32) -> u8
-    requires { value < 16 }
-    ensures { result ≡ hex_digit_of value }
-{
-    if value < 10 {
-        b'0' + value as u8
-    } else {
-        b'a' + (value as u8 - 10)
-    }
-}
-
-/// A word in eight hexadecimal digits, the highest first.
-fn hex_word(word: u32) -> [u8; 8]
-    ensures { result ≡ hex_word_of word }
-{
-    [
-        hex_digit(word >> 28),
-        hex_digit(word >> 24 & 15),
-        hex_digit(word >> 20 & 15),
-        hex_digit(word >> 16 & 15),
-        hex_digit(word >> 12 & 15),
-        hex_digit(word >> 8 & 15),
-        hex_digit(word >> 4 & 15),
-        hex_digit(word & 15),
-    ]
-}
-
 /// How a guest ended.
-fn end_text(alloc: Global, end: End) -> Result<Vec<u8>, AllocError>
-    ensures { IfOk result (λ text. text.items ≡ end_text_of end) }
+fn end_text(alloc: Global, end: End) -> Result<String, AllocError>
+    ensures { IfOk result (λ text. string_bytes text ≡ end_text_of end) }
 {
     match end {
-        End::Halted => b"halted".to_vec(alloc),
-        End::Budget => b"budget".to_vec(alloc),
-        End::Unbuilt(word) => {
-            let mut text = b"unbuilt ".to_vec(alloc)?;
-            text.extend_from_slice(&hex_word(word))?;
-            Ok(text)
+        End::Halted => String::from_str(alloc, "halted"),
+        End::Budget => String::from_str(alloc, "budget"),
+        End::CellFailed(cell) => {
+            let number = cell.0;
+            format!(in alloc; "cell {number}")
         }
     }
 }
@@ -57,13 +29,12 @@ pub fn console_line(alloc: Global, number: usize, count: usize) -> Result<String
 }
 
 /// What ends a guest's console, and how the guest ended.
-pub fn end_line(alloc: Global, end: End) -> Result<Vec<u8>, AllocError>
-    ensures { IfOk result (λ line. line.items ≡ end_line_of end) }
+pub fn end_line(alloc: Global, end: End) -> Result<String, AllocError>
+    ensures { IfOk result (λ line. string_bytes line ≡ end_line_of end) }
 {
-    let mut line = b"\nend ".to_vec(alloc)?;
-    line.extend_from_slice(&end_text(alloc, end)?)?;
-    line.push(b'\n')?;
-    Ok(line)
+    let text = end_text(alloc, end)?;
+    let text = text.as_str();
+    format!(in alloc; "\nend {text}\n")
 }
 
 /// Why an image is refused.
@@ -72,7 +43,19 @@ fn image_fault_text(alloc: Global, fault: ImageFault) -> Result<String, AllocErr
 {
     match fault {
         ImageFault::Short => String::from_str(alloc, "short"),
+        ImageFault::Magic => String::from_str(alloc, "magic"),
+        ImageFault::Class => String::from_str(alloc, "class"),
+        ImageFault::Order => String::from_str(alloc, "order"),
+        ImageFault::Version => String::from_str(alloc, "version"),
+        ImageFault::Kind => String::from_str(alloc, "kind"),
+        ImageFault::Processor => String::from_str(alloc, "processor"),
+        ImageFault::Headers => String::from_str(alloc, "headers"),
+        ImageFault::Interp => String::from_str(alloc, "interp"),
+        ImageFault::Segment(segment) => format!(in alloc; "segment {segment}"),
         ImageFault::Place(segment) => format!(in alloc; "place {segment}"),
+        ImageFault::Overlap(one, other) => format!(in alloc; "overlap {one} {other}"),
+        ImageFault::Entry => String::from_str(alloc, "entry"),
+        ImageFault::Memory => String::from_str(alloc, "memory"),
     }
 }
 

@@ -1,14 +1,15 @@
 //! The run of a guest: load, turns, unload, and its end.
 ghost use Rattle.std.specs.Prelude.{◌≡◌, ◌≢◌, ◌<◌, Some, None, ℕ, IfOk, OnOk, length};
 ghost use Rattle.isolation.specs.GuestState.{processor as processor_at};
-ghost use Rattle.guest_core.specs.MachineView.{image_of};
+ghost use Rattle.flat_machine.specs.FlatView.{start_of};
 ghost use Rattle.monitor_run.specs.Chain.{Monitored};
 ghost use Rattle.monitor_run.specs.Headline.{IsWhole};
 ghost use Rattle.monitor_run.specs.Slices.{MakesTurns, RunsItem, IsOver};
 
 use crate::RunItem;
 use base_words::{GuestId, ProcId, VcpuId};
-use guest_core::{Cut, Guest, Image, Loaded, RunRecord, SliceRecord, Turn};
+use elf_image::Image;
+use guest_core::{Cut, Guest, Loaded, RunRecord, SliceRecord, Turn};
 use outside_io::{Gate, GatePoint};
 use std::alloc::{AllocError, Global};
 
@@ -50,7 +51,7 @@ fn make_turns<G: Gate>(
 /// Carries out an item: loads its virtual processor, makes its turns, and unloads it.
 fn run_item<G: Gate>(guest: &mut Guest, gate: &G, item: &RunItem) -> Result<SliceRecord, AllocError>
     requires processor { item.now.processor.0 < length guest.old.state.processors }
-    requires vcpu { item.now.vcpu.0 < length guest.old.state.vcpus }
+    requires vcpu { item.now.vcpu.0 < length guest.old.state.machine.vcpus }
     requires not_ended { guest.old.state.ended ≡ None }
     requires nowhere { (q : ℕ) → (processor_at guest.old.state q).loaded ≡ None }
     ensures { RunsItem guest.old item.now guest.new result }
@@ -78,11 +79,11 @@ fn finish(guest: &mut Guest) -> Result<(), AllocError>
 /// Runs one guest from its image on one processor, for so many steps, and keeps the record.
 pub fn run_raw<G: Gate>(
     alloc: Global,
-    image: Image,
+    image: &Image,
     steps: u64,
     gate: &G,
 ) -> Result<RunRecord, AllocError>
-    ensures { IfOk result (λ out. IsWhole (Monitored (image_of image) steps) out) }
+    ensures { IfOk result (λ out. IsWhole (Monitored (start_of image.now) steps) out) }
 {
     let item = RunItem {
         item: 0,

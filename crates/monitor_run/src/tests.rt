@@ -14,8 +14,6 @@ const PRINTS_A: [u8; 20] = [
     0x3C, 0x01, 0xCF, 0xFF, 0x34, 0x21, 0xF0, 0x00, 0x24, 0x02, 0x00, 0x41, 0xAC, 0x22, 0x00, 0x00,
     0xAC, 0x22, 0x00, 0x04,
 ];
-/// TLBWI, which isn't built yet.
-const WRITES_THE_TLB: [u8; 4] = [0x42, 0x00, 0x00, 0x02];
 
 /// A call, and what has to come of it.
 #[derive(Clone, Copy)]
@@ -125,17 +123,6 @@ fn runs_end_as_they_should(rt: HostRuntime) -> Result<(), Fail> {
         &Row {
             about: "leading zeros",
             words: &["--raw", "a.raw", "--steps", "0000000005"],
-            ..halts()
-        },
-    )?;
-    try_row(
-        &rt,
-        alloc,
-        &Row {
-            about: "an unbuilt word",
-            words: &["--raw", "a.raw", "--steps", "1"],
-            file: &WRITES_THE_TLB,
-            output: "guest 0 console 0\n\nend unbuilt 42000002\n",
             ..halts()
         },
     )?;

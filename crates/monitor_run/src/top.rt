@@ -56,7 +56,7 @@ fn carry_out<K: Sink, G: Gate>(
     ensures { Ends (Ok (job_seen job)) (K.view sink.old) (K.view sink.new) out.new result }
 {
     let Job::Monitored { image, steps } = job;
-    match run_raw(alloc, image, steps, gate) {
+    match run_raw(alloc, &image, steps, gate) {
         Ok(record) => *out = record,
         Err(_) => return MEMORY,
     }

@@ -1,6 +1,6 @@
 -- A search node by node.
 use Rattle.std.proofs.Common.{◌≡◌, ◌≢◌, ℕ, ◌+◌, ◌<◌, ◌==◌, if◌then◌else◌, Bool, true, false, List, [], ◌++◌, length, set, get_or, Some, refl, sym, ap, ◌∙◌, subst, arith, length-set, get_or-set_same, get_or-set_other}
-use Rattle.std.specs.Prelude.{slice_get}
+use Rattle.std.specs.Prelude.{slice_get, slice_index}
 use Rattle.std.proofs.lemmas.Option.{slice_get_within, get_or_from_slice_get, slice_get-get_or}
 use mathlib.Core.Logic.{dite}
 use native.Mathlib.Decide.{ℕ_discrete}
@@ -110,7 +110,7 @@ pub takes_once : (v : View) (i g : ℕ) (w : View) → Takes v i g w → held i 
 takes_once v i g w t = ap (held i) t.after ∙ times-here i g v.holds ∙ ap (λ n. n + 1) t.unheld
 
 pub finds : (shape : Shape) (lends : List ℕ) (home : ℕ) (order : List NodeId) (place : ℕ) (list : List Shown) (v m w : View) (node : NodeId) (number g : ℕ)
-    → Searched shape lends home order place list v m → slice_get order place ≡ Some node → length list ≡ length order → GivesFrame shape home node.0 number g m w
+    → Searched shape lends home order place list v m → slice_get order place ≡ Some node → length list ≡ length order → GivesFrame shape lends home node.0 number g m w
     → Finds shape lends home order number g v w
 finds shape lends home order place list v m w node number g s here same f = record {
   place = place;
@@ -129,6 +129,7 @@ finds shape lends home order place list v m w node number g s here same f = reco
   took = took;
   once = takes_once _ _ _ _ took;
   paid = subst (λ (u : View). IsOutside shape home node.0 → cell_loans w (cell_of_node shape node.0) ≡ cell_loans u (cell_of_node shape node.0) + 1) s.after f.paid;
+  below = subst (λ (u : View). u.alone ≡ true → IsOutside shape home node.0 → cell_loans u (cell_of_node shape node.0) < slice_index lends (cell_of_node shape node.0)) s.after f.below;
 }
   where
     took : Takes (looked (paying shape home node.0 v) (s.tail ++ f.tail)) (frame_word number) g w

@@ -3,3 +3,8 @@ pub mod SeekLemmas
 pub mod FindLemmas
 pub mod ReleaseLemmas
 pub mod OrderLemmas
+pub mod LeftLemmas
+pub mod BootLemmas
+pub mod AloneLemmas
+pub mod NextLemmas
+pub mod CellLemmas

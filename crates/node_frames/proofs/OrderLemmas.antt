@@ -5,7 +5,8 @@ use Rattle.std.proofs.lemmas.List.Elements.{filter-append, All-nil, All-push, Al
 use Rattle.base_words.specs.declared.frame.Shape.{Shape}
 use Rattle.base_words.specs.declared.ids.NodeId.{NodeId}
 use Rattle.node_frames.specs.Places.{AreNodes}
-use Rattle.node_frames.specs.BootOrder.{nodes_below, is_in, group_nodes, boot_nodes}
+use Rattle.node_frames.specs.BootOrder.{nodes_below, boot_nodes}
+use Rattle.node_frames.specs.Groups.{is_in, group_nodes}
 use Rattle.node_frames.specs.declared.order.Group.{Group}
 use Rattle.node_frames.specs.declared.order.Group.TheVariants.{SameCell, OtherCells}
 
@@ -27,10 +28,10 @@ pub leaves_one : (p : NodeId → Bool) (n : ℕ) (xs start : List NodeId) → p 
 leaves_one p n xs start fails is =
     is ∙ ap (λ (l : List NodeId). start ++ l) (sym (append-nil (filter p (nodes_below n))) ∙ ap (λ (l : List NodeId). filter p (nodes_below n) ++ l) (sym (filter-one p (record { 0 = n }) false fails)) ∙ sym (filter-more p n))
 
-abbrev Below : ℕ → NodeId → Type 0
+abbrev pub Below : ℕ → NodeId → Type 0
 Below n node = node.0 < n
 
-nodes_below-below : (n m : ℕ) → n ≤ m → All (Below m) (nodes_below n)
+pub nodes_below-below : (n m : ℕ) → n ≤ m → All (Below m) (nodes_below n)
 nodes_below-below zero m le = All-nil (Below m)
 nodes_below-below (suc n) m le = All-push (Below m) (nodes_below n) (record { 0 = n }) (nodes_below-below n m (omega arith)) (omega arith)
 

@@ -52,6 +52,10 @@ own_paid v c f low own = ⊎_elim
 abbrev Paid : Shape → ℕ → ℕ → View → View → Type 0
 Paid shape home node v w = IsOutside shape home node → cell_loans w (cell_of_node shape node) ≡ cell_loans v (cell_of_node shape node) + 1
 
+-- a loan that is left to a view that is alone
+abbrev Room : Shape → List ℕ → ℕ → ℕ → View → Type 0
+Room shape lends home node v = v.alone ≡ true → IsOutside shape home node → cell_loans v (cell_of_node shape node) < slice_index lends (cell_of_node shape node)
+
 paid_outside : (shape : Shape) (home node cell n g : ℕ) (v w : View) (tail : List Look) → cell < 8 → cell_of_node shape node ≡ cell → cell ≢ home
     → Takes (looked (paying shape home node v) tail) (frame_word n) g w → Paid shape home node v w
 paid_outside shape home node cell n g v w tail low is outside t _ =
@@ -61,10 +65,10 @@ paid_outside shape home node cell n g v w tail low is outside t _ =
     (ap (held cell) t'.after ∙ times-else (n + 8) cell g (hold cell 0 ∷ v.holds) (λ (h : cell ≡ n + 8). omega arith) ∙ times-here cell 0 v.holds)
 
 -- the scan's frame is the node's
-pub gives_frame : (shape : Shape) (home node first last n g : ℕ) (v m w : View) (tail : List Look) → 0 < shape.frames → first ≡ node * shape.frames → last ≡ first + shape.frames
+pub gives_frame : (shape : Shape) (lends : List ℕ) (home node first last n g : ℕ) (v m w : View) (tail : List Look) → 0 < shape.frames → first ≡ node * shape.frames → last ≡ first + shape.frames
     → GainNothing tail → m ≡ looked (paying shape home node v) tail → (v.alone ≡ true → (frame : ℕ) → first ≤ frame → frame < n → IsOwn v (frame_word frame))
-    → ((more : List Look) → Takes (looked (paying shape home node v) more) (frame_word n) g w → Paid shape home node v w) → ScansTo first last n g m w → GivesFrame shape home node n g v w
-gives_frame shape home node first last n g v m w tail some from to nothing after own paid s = record {
+    → ((more : List Look) → Takes (looked (paying shape home node v) more) (frame_word n) g w → Paid shape home node v w) → Room shape lends home node v → ScansTo first last n g m w → GivesFrame shape lends home node n g v w
+gives_frame shape lends home node first last n g v m w tail some from to nothing after own paid below s = record {
   tail = tail ++ s.tail;
   nothing = GainNothing-append tail s.tail nothing (loads_gain_nothing s.tail s.loads);
   on = range_on shape.frames node n some (let l = s.within.0 in omega arith) (let h = s.within.1 in omega arith);
@@ -72,6 +76,7 @@ gives_frame shape home node first last n g v m w tail some from to nothing after
   own = λ alone frame below on. let r = on_range shape.frames node frame some on in own alone frame (omega arith) below;
   took = took;
   paid = paid (tail ++ s.tail) took;
+  below = below;
 }
   where
     took : Takes (looked (paying shape home node v) (tail ++ s.tail)) (frame_word n) g w
@@ -97,18 +102,19 @@ lent_adds : (v : View) (c most : ℕ) (w : View) (l : Lends v c most w) → w �
 lent_adds v c most w l = l.after ∙ ap (λ ls. record v { holds = hold c 0 ∷ v.holds; looks = ls }) (append_assoc v.looks (look Load c l.seen ∷ []) (look Borrow c l.seen ∷ []))
 
 -- a frame with a loan
-pub gives_frame_outside : (shape : Shape) (home node cell most first last n g : ℕ) (v m w : View) → 0 < shape.frames → first ≡ node * shape.frames → last ≡ first + shape.frames
-    → cell < 8 → cell_of_node shape node ≡ cell → cell ≢ home → Lends v cell most m → ScansTo first last n g m w → GivesFrame shape home node n g v w
-gives_frame_outside shape home node cell most first last n g v m w some from to low is outside l s =
-    gives_frame shape home node first last n g v m w (lending cell l.seen) some from to (refl, (refl, tt))
-    (lent_adds v cell most m l ∙ ap (λ (u : View). looked u (lending cell l.seen)) (sym (paying-outside shape home node cell v is outside)))
-    (λ alone frame above below. own_paid v cell frame low (subst (λ (u : View). u.alone ≡ true → IsOwn u (frame_word frame)) (lent_adds v cell most m l) (λ a. s.own a frame above below) alone))
-    (λ more. paid_outside shape home node cell n g v w more low is outside) s
+pub gives_frame_outside : (shape : Shape) (lends : List ℕ) (home node cell first last n g : ℕ) (v m w : View) → 0 < shape.frames → first ≡ node * shape.frames → last ≡ first + shape.frames
+    → cell < 8 → cell_of_node shape node ≡ cell → cell ≢ home → Lends v cell (slice_index lends cell) m → ScansTo first last n g m w → GivesFrame shape lends home node n g v w
+gives_frame_outside shape lends home node cell first last n g v m w some from to low is outside l s =
+    gives_frame shape lends home node first last n g v m w (lending cell l.seen) some from to (refl, (refl, tt))
+    (lent_adds v cell (slice_index lends cell) m l ∙ ap (λ (u : View). looked u (lending cell l.seen)) (sym (paying-outside shape home node cell v is outside)))
+    (λ alone frame above below. own_paid v cell frame low (subst (λ (u : View). u.alone ≡ true → IsOwn u (frame_word frame)) (lent_adds v cell (slice_index lends cell) m l) (λ a. s.own a frame above below) alone))
+    (λ more. paid_outside shape home node cell n g v w more low is outside)
+    (λ alone _. subst (λ c. cell_loans v c < slice_index lends c) (sym is) (let own = l.own alone in let below = l.below in omega arith)) s
 
-pub gives_frame_inside : (shape : Shape) (home node first last n g : ℕ) (v w : View) → 0 < shape.frames → first ≡ node * shape.frames → last ≡ first + shape.frames
-    → cell_of_node shape node ≡ home → ScansTo first last n g v w → GivesFrame shape home node n g v w
-gives_frame_inside shape home node first last n g v w some from to inside s =
-    gives_frame shape home node first last n g v v w [] some from to tt (looked-nil v ∙ ap (λ (u : View). looked u []) (sym (paying-home shape home node v inside))) s.own (λ more t outside. absurd (outside inside)) s
+pub gives_frame_inside : (shape : Shape) (lends : List ℕ) (home node first last n g : ℕ) (v w : View) → 0 < shape.frames → first ≡ node * shape.frames → last ≡ first + shape.frames
+    → cell_of_node shape node ≡ home → ScansTo first last n g v w → GivesFrame shape lends home node n g v w
+gives_frame_inside shape lends home node first last n g v w some from to inside s =
+    gives_frame shape lends home node first last n g v v w [] some from to tt (looked-nil v ∙ ap (λ (u : View). looked u []) (sym (paying-home shape home node v inside))) s.own (λ more t outside. absurd (outside inside)) (λ alone outside. absurd (outside inside)) s
 
 -- a loan that is repaid leaves the view as it was, but for the looks
 repaid : (v : View) (c seen n : ℕ) (tail : List Look) → dropping (seeing (looked (looked (holding v c 0) (lending c seen)) tail) Repay c n) c ≡ looked v ((lending c seen ++ tail) ++ look Repay c n ∷ [])

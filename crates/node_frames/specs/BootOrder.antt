@@ -4,22 +4,24 @@ use Rattle.std.specs.Prelude.{ℕ, zero, suc, ◌==◌, ◌&&◌, Bool, not, Lis
 use Rattle.base_words.specs.declared.frame.Shape.{Shape}
 use Rattle.base_words.specs.declared.ids.NodeId.{NodeId}
 use Rattle.node_frames.specs.Places.{cell_of_node}
-use Rattle.node_frames.specs.declared.order.Group.{Group}
-use Rattle.node_frames.specs.declared.order.Group.TheVariants.{SameCell, OtherCells}
 
 -- the nodes below a number, in order
 abbrev pub nodes_below : ℕ → List NodeId
 nodes_below zero = []
 nodes_below (suc n) = nodes_below n ++ record { 0 = n } ∷ []
 
--- whether a node is another node of the home node's cell, or a node of another cell
-abbrev pub is_in : Group → Shape → ℕ → NodeId → Bool
-is_in SameCell shape home n = (cell_of_node shape n.0 == cell_of_node shape home) && not (n.0 == home)
-is_in OtherCells shape home n = not (cell_of_node shape n.0 == cell_of_node shape home)
+-- whether a node is another node of the home node's cell
+abbrev pub is_near : Shape → ℕ → NodeId → Bool
+is_near shape home n = (cell_of_node shape n.0 == cell_of_node shape home) && not (n.0 == home)
 
--- the nodes of a group, in order
-abbrev pub group_nodes : Group → Shape → ℕ → List NodeId
-group_nodes group shape home = filter (is_in group shape home) (nodes_below shape.nodes)
+-- whether it is a node of another cell
+abbrev pub is_far : Shape → ℕ → NodeId → Bool
+is_far shape home n = not (cell_of_node shape n.0 == cell_of_node shape home)
 
 abbrev pub boot_nodes : Shape → NodeId → List NodeId
-boot_nodes shape home = home ∷ (group_nodes SameCell shape home.0 ++ group_nodes OtherCells shape home.0)
+boot_nodes shape home =
+    home ∷ (filter (is_near shape home.0) (nodes_below shape.nodes) ++ filter (is_far shape home.0) (nodes_below shape.nodes))
+
+-- the nodes of a cell, by number
+abbrev pub cell_nodes : Shape → ℕ → List NodeId
+cell_nodes shape cell = filter (λ (n : NodeId). cell_of_node shape n.0 == cell) (nodes_below shape.nodes)

@@ -3,3 +3,6 @@ pub mod Entries
 pub mod Searches
 pub mod Scans
 pub mod BootOrder
+pub mod Groups
+pub mod Left
+pub mod Alone

@@ -1,5 +1,5 @@
 -- What a search over the frames of one node answers, and what one over the node with its loan.
-use Rattle.std.specs.Prelude.{◌≡◌, ℕ, ◌+◌, ◌<◌, ◌≤◌, true, List, Option, Some, None, Result, Ok, Err}
+use Rattle.std.specs.Prelude.{◌≡◌, ℕ, ◌+◌, ◌<◌, ◌≤◌, true, List, Option, Some, None, Result, Ok, Err, slice_index}
 use Rattle.base_words.specs.declared.frame.Shape.{Shape}
 use Rattle.frame_words.specs.FrameWords.{frame_word}
 use Rattle.frame_words.specs.Views.{cell_loans}
@@ -35,7 +35,7 @@ ScannedBy first last v None w = ScansAll first last v w
 ScannedBy first last v (Some t) w = ScansTo first last t.number.0 t.generation v w
 
 -- the node gave its lowest frame that could be taken, with a loan where it lies outside home
-pub record GivesFrame (shape : Shape) (home node number generation : ℕ) (v w : View) : Type 0 where
+pub record GivesFrame (shape : Shape) (lends : List ℕ) (home node number generation : ℕ) (v w : View) : Type 0 where
   pub tail : List Look
   pub nothing : GainNothing tail
   pub on : IsOn shape node number
@@ -44,6 +44,8 @@ pub record GivesFrame (shape : Shape) (home node number generation : ℕ) (v w :
   pub took : Takes (looked (paying shape home node v) tail) (frame_word number) generation w
   pub paid : IsOutside shape home node
       → cell_loans w (cell_of_node shape node) ≡ cell_loans v (cell_of_node shape node) + 1
+  pub below : v.alone ≡ true → IsOutside shape home node
+      → cell_loans v (cell_of_node shape node) < slice_index lends (cell_of_node shape node)
 
 -- the node gave none, and showed why; each loan is repaid
 pub record GivesNone (shape : Shape) (lends : List ℕ) (home node : ℕ) (entry : Shown) (v w : View) : Type 0 where
@@ -55,5 +57,5 @@ pub record GivesNone (shape : Shape) (lends : List ℕ) (home node : ℕ) (entry
   pub own : v.alone ≡ true → Owns shape lends node entry v
 
 abbrev pub SoughtBy : Shape → List ℕ → ℕ → ℕ → View → Result Taken Shown → View → Type 0
-SoughtBy shape lends home node v (Ok t) w = GivesFrame shape home node t.number.0 t.generation v w
+SoughtBy shape lends home node v (Ok t) w = GivesFrame shape lends home node t.number.0 t.generation v w
 SoughtBy shape lends home node v (Err entry) w = GivesNone shape lends home node entry v w

@@ -1,5 +1,5 @@
 -- What a search for a frame answers: by the looks of this call, its tail, and the view after.
-use Rattle.std.specs.Prelude.{◌≡◌, ℕ, ◌+◌, ◌<◌, ◌/◌, true, List, length, slice_get, Some}
+use Rattle.std.specs.Prelude.{◌≡◌, ℕ, ◌+◌, ◌<◌, ◌/◌, true, List, length, slice_get, slice_index, Some}
 use Rattle.base_words.specs.declared.frame.Shape.{Shape}
 use Rattle.base_words.specs.declared.ids.NodeId.{NodeId}
 use Rattle.frame_words.specs.FrameWords.{cell_word, frame_word}
@@ -48,6 +48,8 @@ pub record Finds (shape : Shape) (lends : List ℕ) (home : ℕ) (order : List N
   pub once : frame_holds w number ≡ 1
   pub paid : IsOutside shape home node.0
       → cell_loans w (cell_of_node shape node.0) ≡ cell_loans v (cell_of_node shape node.0) + 1
+  pub below : v.alone ≡ true → IsOutside shape home node.0
+      → cell_loans v (cell_of_node shape node.0) < slice_index lends (cell_of_node shape node.0)
 
 -- a search that answers no frame
 abbrev pub RefusedBy : Shape → List ℕ → ℕ → List NodeId → FindFault → View → View → Type 0

@@ -2,6 +2,9 @@
 #![tactic(auto)]
 
 mod answers;
+#[cfg(test)]
+mod boots;
+mod law;
 mod nodes;
 mod order;
 mod search;
@@ -10,5 +13,9 @@ mod taken;
 mod tests;
 
 pub use answers::{FindFault, Shown, ShownList};
+pub use law::{
+    alone_finds_next, boot_order_has_each_node, cell_frames_count_the_cache, first_holder_has_all,
+    has_counts_the_frames_to_come, searches_take_what_is_left,
+};
 pub use order::boot_order;
 pub use search::{find, release};

@@ -1,7 +1,8 @@
 //! The order in which nodes are asked.
 ghost use Rattle.std.specs.Prelude.{◌≡◌, ◌<◌, ◌++◌, IfOk, OnOk};
 ghost use Rattle.node_frames.specs.Places.{AreNodes, cell_of_node};
-ghost use Rattle.node_frames.specs.BootOrder.{is_in, group_nodes, boot_nodes};
+ghost use Rattle.node_frames.specs.BootOrder.{boot_nodes};
+ghost use Rattle.node_frames.specs.Groups.{is_in, group_nodes};
 
 use base_words::{CellId, NodeId, NodeList, Shape};
 use std::alloc::{AllocError, Global};

@@ -1,8 +1,9 @@
 //! Searches and orders worked out by hand.
-ghost use Rattle.std.specs.Prelude.{◌≡◌, ◌<◌, IfOk, All};
+ghost use Rattle.std.specs.Prelude.{◌≡◌, ◌<◌, IfOk, All, length};
 ghost use Rattle.frame_words.specs.Holders.{IsMade};
 ghost use Rattle.node_frames.specs.Places.{FitsShape, AreNodes};
 
+use crate::boots::fill;
 use crate::{FindFault, Shown, boot_order, find, release};
 use base_words::{CellId, CellList, NodeId, NodeList, Shape};
 use frame_words::{FrameTable, Holder};
@@ -106,7 +107,8 @@ fn a_node_whose_frames_are_held_keeps_no_loan(rt: HostRuntime) -> Result<(), Fai
 
 // Four nodes, of cells 0, 1, 0 and 1.
 fn four_nodes(alloc: Global) -> Result<Shape, AllocError>
-    ensures { IfOk result (λ shape. shape.nodes ≡ 4) }
+    ensures sizes { IfOk result (λ shape. (shape.nodes ≡ 4) × (shape.frames ≡ 1)) }
+    ensures cells { IfOk result (λ shape. All (λ cell. cell.0 < 2) shape.cells) }
 {
     let mut cells = Vec::new(alloc);
     cells.push(CellId(0))?;
@@ -133,5 +135,51 @@ fn boot_order_goes_from_near_to_far(rt: HostRuntime) -> Result<(), Fail> {
     assert!(rt; is_order(rt.alloc(), &shape, a, &[a, c, b, d])?);
     assert!(rt; is_order(rt.alloc(), &shape, c, &[c, a, b, d])?);
     assert!(rt; is_order(rt.alloc(), &shape, d, &[d, b, a, c])?);
+    Ok(())
+}
+
+// How many frames a first guest of node 0 and then a second of node 1 get of the pages that they want,
+// where the cells 0 and 1 lend so many.
+fn two_guests(
+    alloc: Global,
+    lends: &[u32],
+    first: u32,
+    second: u32,
+) -> Result<(u32, u32), AllocError>
+    requires { length lends.now ≡ 2 }
+{
+    let shape = four_nodes(alloc)?;
+    let near = boot_order(alloc, &shape, NodeId(0))?;
+    let far = boot_order(alloc, &shape, NodeId(1))?;
+    let (table, mut holder) = FrameTable::new(alloc, 4, lends, 0)?;
+    let one = fill(
+        alloc,
+        &table,
+        &mut holder,
+        &shape,
+        &near,
+        NodeId(0),
+        CellId(0),
+        first,
+    )?;
+    let two = fill(
+        alloc,
+        &table,
+        &mut holder,
+        &shape,
+        &far,
+        NodeId(1),
+        CellId(1),
+        second,
+    )?;
+    Ok((one, two))
+}
+
+#[test]
+fn guests_get_what_is_left_in_order(rt: HostRuntime) -> Result<(), Fail> {
+    assert_eq!(rt; two_guests(rt.alloc(), &[0, 0], 3, 3)?, (2, 2));
+    assert_eq!(rt; two_guests(rt.alloc(), &[0, 1], 3, 3)?, (3, 1));
+    assert_eq!(rt; two_guests(rt.alloc(), &[0, 9], 9, 1)?, (4, 0));
+    assert_eq!(rt; two_guests(rt.alloc(), &[1, 0], 1, 9)?, (1, 3));
     Ok(())
 }

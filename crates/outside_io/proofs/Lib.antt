@@ -1,1 +1,3 @@
+pub mod CollectedLemmas
+pub mod StreamLemmas
 pub mod WritingLemmas

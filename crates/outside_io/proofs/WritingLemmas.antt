@@ -74,8 +74,8 @@ Starves-nothing a text = record { within = GrowsWithin-nothing a a text refl; co
 -- a text that was put, and then settled or not
 pub Writes-finished : (a b c : SinkView) (text : List ℕ) (result : Result (Unit {0}) SinkFault) → Took a b text → c.holds ≡ b.holds → Finishes b c result → Writes a c text result
 Writes-finished a b c text (Ok done) took same finishes = record { grows = same ∙ took.grows; counts = omega (arith, took.counts, finishes.0); settled = finishes.1 }
-Writes-finished a b c text (Err Failed) took same finishes = record { within = GrowsWithin-whole a c text (same ∙ took.grows); rose = rose_later took.counts finishes }
-Writes-finished a b c text (Err Memory) took same finishes = record { within = GrowsWithin-whole a c text (same ∙ took.grows); counts = omega (arith, took.counts, finishes) }
+Writes-finished a b c text (Err Failed) took same finishes = record { within = GrowsWithin-whole a c text (same ∙ took.grows); rose = rose_later took.counts finishes.0 }
+Writes-finished a b c text (Err Memory) took same finishes = record { within = GrowsWithin-whole a c text (same ∙ took.grows); counts = omega (arith, took.counts, finishes.0) }
 
 -- a text at which the output stopped isn't settled
 pub Writes-stopped : (a b : SinkView) (text : List ℕ) (fault : SinkFault) → Puts a b text (Err fault) → Writes a b text (Err fault)

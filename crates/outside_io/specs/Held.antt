@@ -1,5 +1,5 @@
 -- Files in memory, whose reads fail as a list says.
-use Rattle.std.specs.Prelude.{◌≡◌, ◌⊎◌, ℕ, ◌≤◌, ◌<◌, length, List, [], ◌∷◌, bytes_eq, if◌then◌else◌, Contains, Result, Ok, Err}
+use Rattle.std.specs.Prelude.{◌≡◌, ◌≢◌, ◌⊎◌, ℕ, ◌≤◌, ◌<◌, length, List, [], ◌∷◌, bytes_eq, if◌then◌else◌, Contains, Result, Ok, Err}
 use Rattle.outside_io.specs.declared.memory.HeldFile.{HeldFile}
 use Rattle.outside_io.specs.declared.shelf.ShelfFault.{ShelfFault}
 use Rattle.outside_io.specs.declared.shelf.ShelfFault.TheVariants.{Failed, Long, Memory}
@@ -22,12 +22,31 @@ told_by (file ∷ files) name = if bytes_eq file.name name then Holds file.bytes
 abbrev pub shelf_view : ShelfState → ShelfView
 shelf_view s = record { told = told_by s.files; faults = s.faults; failed = s.failed }
 
--- a read fails only at a call that the list names, or at a name that isn't held
+-- the next read has to fail: the list names the call, or no file has the name
+abbrev pub MustFail : ShelfState → List ℕ → Type 0
+MustFail s name = Contains s.fails (counted s.calls) ⊎ (told_by s.files name ≡ Absent)
+
+-- a read fails exactly where it has to; memory may be wanting anywhere
 abbrev pub Fails : ShelfState → List ℕ → Result (List ℕ) ShelfFault → Type 0
-Fails old name (Ok bytes) = Unit {0}
-Fails old name (Err Failed) = Contains old.fails (counted old.calls) ⊎ (told_by old.files name ≡ Absent)
-Fails old name (Err Long) = Unit {0}
+Fails old name (Ok bytes) = ¬ MustFail old name
+Fails old name (Err Failed) = MustFail old name
+Fails old name (Err Long) = ¬ MustFail old name
 Fails old name (Err Memory) = Unit {0}
+
+-- where the list names no call, no read of a name that is held fails
+abbrev pub NeverFails : ShelfState → List ℕ → Result (List ℕ) ShelfFault → Type 0
+NeverFails old name result = old.fails ≡ [] → told_by old.files name ≢ Absent → result ≢ Err Failed
+
+-- a shelf after one more call
+abbrev pub called : ShelfState → ShelfState
+called s = record s { calls = counted s.calls }
+
+-- what a read leaves: each is counted, and a failed one is a fault at its name
+abbrev pub Leaves : ShelfState → ShelfState → List ℕ → Result (List ℕ) ShelfFault → Type 0
+Leaves old new name (Ok bytes) = new ≡ called old
+Leaves old new name (Err Failed) = new ≡ record (called old) { faults = counted old.faults; failed = name }
+Leaves old new name (Err Long) = new ≡ called old
+Leaves old new name (Err Memory) = new ≡ called old
 
 -- a fault is counted at a name, unless memory is wanting for the name
 abbrev pub Misses : ShelfState → ShelfState → List ℕ → Result (List ℕ) ShelfFault → Type 0

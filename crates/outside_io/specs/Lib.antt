@@ -2,4 +2,5 @@ pub mod Collected
 pub mod Held
 pub mod Reading
 pub mod Streams
+pub mod System
 pub mod Writing

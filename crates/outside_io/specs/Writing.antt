@@ -54,8 +54,8 @@ Writes old new text (Ok done) = Settles old new text
 Writes old new text (Err Failed) = Breaks old new text
 Writes old new text (Err Memory) = Starves old new text
 
--- what finishing does, by its answer; the bytes stay whatever it is
+-- what finishing does, by its answer; the bytes stay whatever it is, and after a fault it is as settled as it was
 abbrev pub Finishes : SinkView → SinkView → Result (Unit {0}) SinkFault → Type 0
 Finishes old new (Ok done) = (old.faults ≤ new.faults) × (new.settled ≡ true)
-Finishes old new (Err Failed) = Rose old.faults new.faults
-Finishes old new (Err Memory) = old.faults ≤ new.faults
+Finishes old new (Err Failed) = Rose old.faults new.faults × (new.settled ≡ old.settled)
+Finishes old new (Err Memory) = (old.faults ≤ new.faults) × (new.settled ≡ old.settled)

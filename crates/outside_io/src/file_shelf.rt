@@ -1,13 +1,15 @@
 //! Files of the system.
-ghost use Rattle.std.specs.Prelude.{◌≡◌, [], length, ◌≤◌};
-ghost use Rattle.outside_io.specs.Reading.{Untold, ShelfView};
-ghost use Rattle.outside_io.specs.Streams.{Streams};
+ghost use Rattle.std.specs.Prelude.{◌≡◌, ◌+◌, []};
+ghost use Rattle.outside_io.specs.Reading.{Reads};
+ghost use Rattle.outside_io.specs.System.{files_view, FilesLeave};
+ghost use Rattle.outside_io.specs.Streams.{Streams, StreamsKnown, TakesUpTo};
 
 use crate::{Shelf, ShelfFault};
 use base_words::{Bytes, Name};
 use std::alloc::Global;
 use std::fs;
 use std::io::Read;
+use std::marker::Model;
 use std::rt::Files;
 
 /// The files that the system has by their paths. It tells nothing of their content.
@@ -18,9 +20,19 @@ pub struct FileShelf<'a, R: Files> {
     failed: Name,
 }
 
+impl<'a, R: Files> Model for FileShelf<'a, R> {
+    ghost use Rattle.outside_io.specs.System.{FilesState};
+
+    ghost Value = { FilesState };
+
+    ghost view = { λ s. record { faults = s.faults; failed = s.failed } };
+}
+
 impl<'a, R: Files> FileShelf<'a, R> {
     /// The system's files, none of them read yet. Takes no memory.
-    pub fn new(alloc: Global, rt: &'a R) -> Self {
+    pub fn new(alloc: Global, rt: &'a R) -> Self
+        ensures { result ≡ record { faults = 0; failed = [] } }
+    {
         FileShelf {
             rt,
             faults: 0,
@@ -31,7 +43,9 @@ impl<'a, R: Files> FileShelf<'a, R> {
 
 /// The bytes that a stream gives to its end, unless they are more than `most`. Reads at most one byte more.
 fn read_stream<F: Read>(alloc: Global, file: &mut F, most: u64) -> Result<Bytes, ShelfFault>
-    ensures { Streams most result }
+    ensures limit { Streams most result }
+    ensures known { StreamsKnown (F.remaining file.old) most result }
+    ensures no_further { TakesUpTo (F.remaining file.old) (F.remaining file.new) (most + 1) }
 {
     let mut bytes = Vec::new(alloc);
     let mut chunk = [0u8; 4096];
@@ -61,7 +75,7 @@ fn read_file<R: Files>(alloc: Global, rt: &R, path: &str, most: u64) -> Result<B
 }
 
 impl<'a, R: Files> Shelf for FileShelf<'a, R> {
-    ghost view = { λ s. record { told = λ _. Untold; faults = s.faults; failed = s.failed } };
+    ghost view = { files_view };
 
     fn faults(&self) -> u64 {
         self.faults
@@ -71,7 +85,11 @@ impl<'a, R: Files> Shelf for FileShelf<'a, R> {
         self.failed.as_str()
     }
 
-    fn read(&mut self, alloc: Global, name: &str, most: u64) -> Result<Bytes, ShelfFault> {
+    fn read(&mut self, alloc: Global, name: &str, most: u64) -> Result<Bytes, ShelfFault>
+        ensures reads { Reads (files_view self.old) (files_view self.new) name.now most result }
+        ensures told { (files_view self.new).told ≡ (files_view self.old).told }
+        ensures leaves { FilesLeave self.old self.new name.now result }
+    {
         let copy = Name::copy_of(alloc, name)?;
         match read_file(alloc, self.rt, name, most) {
             Ok(bytes) => Ok(bytes),

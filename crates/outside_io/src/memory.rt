@@ -1,7 +1,7 @@
 //! Files in memory, whose reads fail at the calls that a list names.
 ghost use Rattle.std.specs.Prelude.{◌≡◌, [], ◌↔◌, IsTrue, Contains, MatchOption, string_bytes, OnErr};
 ghost use Rattle.outside_io.specs.Reading.{Absent, Holds, IsCalm, IsFailed, Reads};
-ghost use Rattle.outside_io.specs.Held.{told_by, shelf_view, Copies, Fails, Misses};
+ghost use Rattle.outside_io.specs.Held.{told_by, shelf_view, Copies, Fails, Leaves, Misses, NeverFails};
 
 use crate::{Shelf, ShelfFault};
 use base_words::{Bytes, Name, Sequence};
@@ -107,6 +107,8 @@ impl Shelf for MemShelf {
         ensures reads { Reads (shelf_view self.old) (shelf_view self.new) name.now most result }
         ensures told { (shelf_view self.new).told ≡ (shelf_view self.old).told }
         ensures fails { Fails self.old name.now result }
+        ensures leaves { Leaves self.old self.new name.now result }
+        ensures never { NeverFails self.old name.now result }
     {
         self.calls = self.calls.saturating_add(1);
         let failing = is_failing(self.fails.as_slice(), self.calls);

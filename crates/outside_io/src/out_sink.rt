@@ -1,7 +1,10 @@
 //! The system's standard output.
-ghost use Rattle.std.specs.Prelude.{◌≡◌, None, ◌≤◌, OnOk, OnErr, IsErr, ◌<◌};
+ghost use Rattle.std.specs.Prelude.{◌≡◌, false, true, Ok};
+ghost use Rattle.outside_io.specs.Writing.{Puts, Finishes};
+ghost use Rattle.outside_io.specs.System.{output_view, OutputLeaves};
 
 use crate::{Sink, SinkFault};
+use std::marker::Model;
 
 /// The standard output. It tells nothing of what it holds.
 #[derive(Drop)]
@@ -11,9 +14,19 @@ pub struct OutSink<'a, P: Print> {
     settled: bool,
 }
 
+impl<'a, P: Print> Model for OutSink<'a, P> {
+    ghost use Rattle.outside_io.specs.System.{OutputState};
+
+    ghost Value = { OutputState };
+
+    ghost view = { λ s. record { faults = s.faults; settled = s.settled } };
+}
+
 impl<'a, P: Print> OutSink<'a, P> {
     /// The standard output of a runtime, with nothing put yet.
-    pub fn new(to: &'a P) -> Self {
+    pub fn new(to: &'a P) -> Self
+        ensures { result ≡ record { faults = 0; settled = false } }
+    {
         OutSink {
             to,
             faults: 0,
@@ -38,13 +51,17 @@ fn write_all<P: Print>(to: &P, bytes: &[u8]) -> bool {
 }
 
 impl<'a, P: Print> Sink for OutSink<'a, P> {
-    ghost view = { λ s. record { holds = None; faults = s.faults; settled = s.settled } };
+    ghost view = { output_view };
 
     fn faults(&self) -> u64 {
         self.faults
     }
 
-    fn put(&mut self, bytes: &[u8]) -> Result<(), SinkFault> {
+    fn put(&mut self, bytes: &[u8]) -> Result<(), SinkFault>
+        ensures puts { Puts (output_view self.old) (output_view self.new) bytes.now result }
+        ensures unsettled { (output_view self.new).settled ≡ false }
+        ensures leaves { OutputLeaves self.old self.new result }
+    {
         self.settled = false;
         if write_all(self.to, bytes) {
             return Ok(());
@@ -53,7 +70,12 @@ impl<'a, P: Print> Sink for OutSink<'a, P> {
         Err(SinkFault::Failed)
     }
 
-    fn finish(&mut self) -> Result<(), SinkFault> {
+    fn finish(&mut self) -> Result<(), SinkFault>
+        ensures finishes { Finishes (output_view self.old) (output_view self.new) result }
+        ensures holds { (output_view self.new).holds ≡ (output_view self.old).holds }
+        ensures done { result ≡ Ok record {} }
+        ensures leaves { self.new ≡ record self.old { settled = true } }
+    {
         self.settled = true;
         Ok(())
     }

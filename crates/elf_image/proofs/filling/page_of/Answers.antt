@@ -2,7 +2,7 @@ use Rattle.elf_image.proofs.Pages.{IsPageOf-more, IsPageOf-zeroed}
 use Rattle.elf_image.proofs.filling.page_of.Goals as goal
 
 pub loop-header-init : goal.loop-header-init
-loop-header-init c = IsPageOf-zeroed c.args.file.now c.args.number c.in_ok-page.page.value c.in_ok-page.ensures
+loop-header-init c = IsPageOf-zeroed c.args.file.now c.args.number c.in_ok-page.page.value c.in_ok-page.ensures.zeros
 
 pub loop-header-preserved : goal.loop-header-preserved
 loop-header-preserved c =

@@ -7,4 +7,4 @@ pub fill_from-requires : goal.fill_from-requires
 fill_from-requires c = rw c.part_of.ensures (simp length-take (omega arith))
 
 pub returns : goal.returns
-returns c = IsPageOf-part c.args.file.now c.args.number c.deref_mut.result.now c.fill_from.new.self c.part_of.result.now (c.deref_mut.ensures.value ∙ c.in_ok-page.ensures) c.part_of.ensures c.fill_from.ensures
+returns c = IsPageOf-part c.args.file.now c.args.number c.deref_mut.result.now c.fill_from.new.self c.part_of.result.now (c.deref_mut.ensures.value ∙ c.in_ok-page.ensures.zeros) c.part_of.ensures c.fill_from.ensures.filled

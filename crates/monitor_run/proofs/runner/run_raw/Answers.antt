@@ -1,5 +1,5 @@
 use Rattle.std.proofs.Common.{◌∷◌, [], ◌++◌, List, ap, ◌∙◌, sym, subst}
-use Rattle.guest_core.specs.MachineView.{image_of}
+use Rattle.flat_machine.specs.FlatView.{start_of}
 use Rattle.guest_core.specs.GuestView.{Monitored as Guest}
 use Rattle.guest_core.specs.declared.records.GuestRecord.{GuestRecord}
 use Rattle.guest_core.specs.declared.records.SliceRecord.{SliceRecord}
@@ -12,7 +12,7 @@ use Rattle.monitor_run.proofs.runner.run_raw.Goals as goal
 
 pub returns : goal.returns
 returns g c =
-    let image = image_of c.args.image in
+    let image = start_of c.args.image.now in
     let slice = c.in_ok-slice.slice in
     let left = c.into_record.result in
     let slices = c.in_ok-push.ensures.ok ∙ ap (λ (out : RunRecord). out.slices ++ slice ∷ []) c.empty-out.ensures in

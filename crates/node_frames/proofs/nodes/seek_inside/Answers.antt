@@ -3,7 +3,7 @@ use Rattle.node_frames.proofs.nodes.seek_inside.Goals as goal
 
 pub returns-in-Some-clause-sought : goal.returns-in-Some-clause-sought
 returns-in-Some-clause-sought c =
-    gives_frame_inside _ _ _ _ _ _ _ _ _ c.args.shape.now.has_frames c.frames_of-first.ensures.first c.frames_of-first.ensures.last c.requires.inside c.in-Some.ensures.scanned
+    gives_frame_inside _ _ _ _ _ _ _ _ _ _ c.args.shape.now.has_frames c.frames_of-first.ensures.first c.frames_of-first.ensures.last c.requires.inside c.in-Some.ensures.scanned
 
 pub returns-in-None-clause-sought : goal.returns-in-None-clause-sought
 returns-in-None-clause-sought c =

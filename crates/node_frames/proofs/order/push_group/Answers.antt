@@ -1,6 +1,6 @@
 use Rattle.std.proofs.Common.{Bool, ◌∙◌, sym}
 use Rattle.base_words.specs.declared.ids.NodeId.{NodeId}
-use Rattle.node_frames.specs.BootOrder.{is_in}
+use Rattle.node_frames.specs.Groups.{is_in}
 use Rattle.node_frames.proofs.OrderLemmas.{takes_one, leaves_one}
 use Rattle.node_frames.proofs.order.push_group.Goals as goal
 use Rattle.node_frames.proofs.order.push_group.Goals.{then-is_in+in_ok-push, else-is_in}

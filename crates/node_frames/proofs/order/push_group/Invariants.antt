@@ -1,6 +1,7 @@
 use Rattle.std.proofs.Common.{◌≡◌, ◌++◌}
 use Rattle.std.specs.Prelude.{filter}
-use Rattle.node_frames.specs.BootOrder.{nodes_below, is_in}
+use Rattle.node_frames.specs.BootOrder.{nodes_below}
+use Rattle.node_frames.specs.Groups.{is_in}
 use Rattle.node_frames.proofs.order.push_group.Given as goal
 
 abbrev pub invariant-loop-number : goal.invariant-loop-number

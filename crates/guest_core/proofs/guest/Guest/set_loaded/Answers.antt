@@ -9,10 +9,13 @@ use Rattle.guest_core.proofs.guest.Guest.set_loaded.Goals as goal
 pub invariant_of-self : goal.invariant_of-self
 invariant_of-self c =
     let g = c.self.inside in
-    let below : (v : VcpuId) → c.args.vcpu ≡ Some v → v.0 < length (state_of g).vcpus =
-    subst (λ (m : Monitored). (v : VcpuId) → c.args.vcpu ≡ Some v → v.0 < length m.state.vcpus) (sym c.self.view_is) c.requires.vcpu in
-    rw (state_of-with_item g c.args.processor.0 c.args.vcpu)
-    (IsSound-with_loaded (state_of g) c.args.processor.0 _ c.self.invariant (number_below c.args.vcpu _ below))
+    let below : (v : VcpuId) → c.args.vcpu ≡ Some v → v.0 < length (state_of g).machine.vcpus =
+    subst (λ (m : Monitored). (v : VcpuId) → c.args.vcpu ≡ Some v → v.0 < length m.state.machine.vcpus) (sym c.self.view_is) c.requires.vcpu in
+    record {
+      sound = rw (state_of-with_item g c.args.processor.0 c.args.vcpu)
+          (IsSound-with_loaded (state_of g) c.args.processor.0 _ c.self.invariant.sound (number_below c.args.vcpu _ below));
+      count = c.self.invariant.count;
+    }
 
 pub returns : goal.returns
 returns c =

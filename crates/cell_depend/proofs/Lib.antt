@@ -1,0 +1,4 @@
+pub mod Changes
+pub mod Counting
+pub mod Histories
+pub mod Using

@@ -1,0 +1,3 @@
+pub mod CellUse
+pub mod Counters
+pub mod Events

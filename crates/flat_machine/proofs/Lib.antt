@@ -1,0 +1,6 @@
+pub mod ShownLemmas
+pub mod SoundLemmas
+pub mod MachineLemmas
+pub mod DiskLemmas
+pub mod CountLemmas
+pub mod BootLemmas

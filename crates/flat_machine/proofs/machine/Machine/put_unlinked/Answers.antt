@@ -1,0 +1,9 @@
+use Rattle.std.proofs.Common.{ap, ◌∙◌}
+use Rattle.private_machine.specs.Showing.{shown_by}
+use Rattle.flat_machine.proofs.SoundLemmas.{IsSound-with_item}
+use Rattle.flat_machine.proofs.machine.Machine.put_unlinked.Goals as goal
+
+pub returns-clause-sound : goal.returns-clause-sound
+returns-clause-sound c =
+    IsSound-with_item c.args.self.now c.args.vcpu.0 c.put_unlinked.new.vcpu c.index_mut.result.now c.requires.sound c.index_mut.ensures.value
+    (ap shown_by c.put_unlinked.ensures)

@@ -1,0 +1,2 @@
+pub mod FlatView
+pub mod Attempts

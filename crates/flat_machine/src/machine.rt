@@ -1,0 +1,20 @@
+//! The parts of a flat machine.
+use base_words::Page;
+use guest_devs::Devs;
+use private_machine::Vcpu;
+use std::alloc::Global;
+
+/// A guest's memory of so many pages, its virtual processors, devices and disk; and whether there is room for a byte on the
+/// console and a packet.
+#[derive(Debug, Drop)]
+pub struct Machine {
+    pub alloc: Global,
+    pub pages: u32,
+    pub memory: Vec<u8>,
+    pub vcpus: Vec<Vcpu>,
+    pub devs: Devs,
+    pub disk: Vec<Box<Page>>,
+    /// Room for a packet.
+    pub spare: Vec<u8>,
+    pub ready: bool,
+}

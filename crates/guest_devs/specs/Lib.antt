@@ -1,0 +1,3 @@
+pub mod DeviceState
+pub mod DeviceCalls
+pub mod Shown

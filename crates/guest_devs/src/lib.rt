@@ -1,0 +1,19 @@
+//! The device page of a guest: its registers, console, input, packets sent, interrupts between virtual processors and halts.
+#![tactic(auto)]
+
+mod act;
+mod devs;
+mod input;
+mod registers;
+mod showing;
+mod stores;
+
+pub use act::DevAct;
+pub use devs::Devs;
+pub use registers::device_register;
+
+/// What a load of the input register answers where no byte waits, and one of the armed page where none is.
+pub(crate) const NOTHING: u32 = 0xFFFF_FFFF;
+
+#[cfg(test)]
+mod tests;

@@ -1,0 +1,5 @@
+pub mod PlaceLemmas
+pub mod FillLemmas
+pub mod OrderLemmas
+pub mod RoomLemmas
+pub mod SoundLemmas

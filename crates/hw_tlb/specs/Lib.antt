@@ -1,0 +1,5 @@
+pub mod Tlb
+pub mod Lookup
+pub mod Dropping
+pub mod Filling
+pub mod Rooms

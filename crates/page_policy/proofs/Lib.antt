@@ -1,0 +1,2 @@
+pub mod ByPage
+pub mod Zeros

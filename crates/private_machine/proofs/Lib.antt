@@ -1,0 +1,7 @@
+pub mod Alignment
+pub mod Turns
+pub mod VcpuLists
+mod WorkedGuests
+mod WorkedRuns
+mod WorkedFaults
+mod WorkedDevices

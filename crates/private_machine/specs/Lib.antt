@@ -1,0 +1,15 @@
+pub mod Vcpu
+pub mod DevicePage
+pub mod DeviceRegisters
+pub mod PrivateMachine
+pub mod Links
+pub mod Signals
+pub mod Showing
+pub mod Devices
+pub mod Packet
+pub mod Access
+pub mod OwnStep
+pub mod PrivateRun
+pub mod Translation
+pub mod Policy
+pub mod SecondLevel

@@ -1,0 +1,10 @@
+//! A guest's private machine, by which its console is defined: one flat list of bytes, stepped by the processor's manual.
+//! Definitions, and one virtual processor alone with what it does by itself.
+#![tactic(auto)]
+
+mod translation;
+mod vcpu;
+mod vcpus;
+
+pub use vcpu::Vcpu;
+pub use vcpus::{show, unlink_others, unlink_page};

@@ -1,0 +1,41 @@
+//! The virtual processors of a guest together.
+ghost use Rattle.std.specs.Prelude.{◌≡◌, ◌<◌, length, map};
+ghost use Rattle.private_machine.specs.Links.{unlinked_page, unlinked_others as unlinked_others_of};
+ghost use Rattle.private_machine.specs.Showing.{shown_by, shown_from, showing_from};
+
+use crate::Vcpu;
+use base_words::Ppn;
+
+/// Clears the links to a line of all but the one that stores into it.
+#[inline]
+pub fn unlink_others(vcpus: &mut [Vcpu], storing: usize, line: u32)
+    requires { storing < length vcpus.old }
+    ensures { vcpus.new ≡ unlinked_others_of line storing vcpus.old }
+{
+    for number in 0..vcpus.len() {
+        if number != storing {
+            vcpus[number].unlink(line);
+        }
+    }
+}
+
+/// Clears the links of all to lines of a page.
+pub fn unlink_page(vcpus: &mut [Vcpu], page: Ppn)
+    ensures { vcpus.new ≡ map (unlinked_page page.0) vcpus.old }
+{
+    for number in 0..vcpus.len() {
+        vcpus[number].unlink_page(page);
+    }
+}
+
+/// Makes each show whether it has halted and its line IP4, and the first one its line IP3.
+pub fn show(vcpus: &mut [Vcpu], halted: &[bool], called: &[bool], packet: bool)
+    requires halted { length halted.now ≡ length vcpus.old }
+    requires called { length called.now ≡ length vcpus.old }
+    ensures shown { vcpus.new ≡ showing_from packet halted.now called.now vcpus.old }
+    ensures shows { map shown_by vcpus.new ≡ shown_from packet halted.now called.now }
+{
+    for number in 0..vcpus.len() {
+        vcpus[number].show(halted[number], called[number], number == 0 && packet);
+    }
+}
