@@ -6,7 +6,7 @@ use crate::{Exception, FrameNo, Ppn};
 pub enum DataAccess {
     NoData,
     Load { page: Ppn, frame: FrameNo },
-    /// A store. A conditional one that wasn't made counts, since it is translated as a store.
+    /// A store that was made. A conditional one that isn't made is a load: it is translated as a store, and stores nothing.
     Store { page: Ppn, frame: FrameNo },
 }
 

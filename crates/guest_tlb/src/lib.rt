@@ -2,6 +2,7 @@
 #![tactic(auto)]
 
 mod entries;
+mod everywhere;
 mod tlb;
 
 pub use base_words::{Entry, TlbAnswer};

@@ -2,8 +2,10 @@
 ghost use Rattle.std.specs.Prelude.{◌≡◌, ℕ, ◌<◌, ◌^◌, length};
 ghost use Rattle.base_words.specs.declared.tlb.TlbAnswer.TheVariants.{Hit};
 ghost use Rattle.base_words.specs.Tlb.{looked_up, probed, entry_read, entry_written, tlb_at_reset};
+ghost use Rattle.guest_tlb.specs.Everywhere.{only_global};
 
 use crate::entries::{address_space, at_reset, half, kept, matches, page_pair, permitted};
+use crate::everywhere;
 use base_words::{Entry, TlbAnswer};
 use std::array;
 use std::marker::Model;
@@ -45,6 +47,13 @@ impl Tlb48 {
             None => TlbAnswer::Miss,
             Some(entry) => permitted(half(entry, address), store),
         }
+    }
+
+    /// Whether the entry that counts for an address is of all address spaces, and no other is of its pair of pages.
+    pub fn is_only_global(&self, address: u32, asid: u8) -> bool
+        ensures { result ≡ only_global self.now asid address }
+    {
+        everywhere::only_global(&self.entries, address, asid)
     }
 
     /// The lowest entry that matches an EntryHi.

@@ -152,6 +152,17 @@ impl Cp0 {
             && u32::from(status.mask) & pending_bits(&self.registers.cause.pending) != 0
     }
 
+    /// Whether an interrupt would be enabled and pending with IP2, for input, on or off.
+    #[inline]
+    pub fn pending_with_input(&self, waits: bool) -> bool
+        ensures { result ≡ interrupts (line_set self.now 2 waits) }
+    {
+        let status = &self.registers.status;
+        let mut pending = self.registers.cause.pending;
+        pending.input = waits;
+        status.enabled && !status.exception && u32::from(status.mask) & pending_bits(&pending) != 0
+    }
+
     /// Whether user code runs, and no exception is being handled.
     #[inline]
     pub fn is_user(&self) -> bool

@@ -11,5 +11,17 @@ pub mod Access
 pub mod OwnStep
 pub mod PrivateRun
 pub mod Translation
+pub mod Everywhere
 pub mod Policy
 pub mod SecondLevel
+pub mod Backing
+pub mod DirectAccess
+pub mod HardwareStep
+pub mod Operation
+pub mod PageMove
+pub mod Reaching
+pub mod Serving
+pub mod Disk
+pub mod DeviceAct
+pub mod StepAct
+pub mod TrapAccess

@@ -1,7 +1,7 @@
 //! Where an address leads, by the mode and the guest's TLB.
-ghost use Rattle.std.specs.Prelude.{◌≡◌, ◌<◌, ◌+◌, ◌*◌, ◌%◌, ◌^◌, IfOk};
+ghost use Rattle.std.specs.Prelude.{◌≡◌, ◌<◌, ◌+◌, ◌*◌, ◌%◌, ◌^◌, ◌↔◌, false, IsTrue, IfOk};
 ghost use Rattle.base_words.specs.Tlb.{looked_up};
-ghost use Rattle.base_words.specs.Place.{place as place_of, physical as physical_of, segment, through_tlb, translated, is_store as is_store_of};
+ghost use Rattle.base_words.specs.Place.{Mapped, Direct, place as place_of, physical as physical_of, segment, through_tlb, translated, is_store as is_store_of};
 ghost use Rattle.private_machine.specs.Translation.{IsWithin, IsPhysical, IsAt, IsAligned};
 
 use base_words::{Exception, Place, TlbAnswer, Use};
@@ -17,6 +17,22 @@ const DEVICE_PAGE: u32 = 0xFFFF;
 pub struct Space {
     pub user: bool,
     pub asid: u8,
+}
+
+/// Whether the kernel reaches its guest's memory at this address directly.
+#[inline]
+pub fn is_direct(address: u32) -> bool
+    ensures { IsTrue result ↔ (segment false address ≡ Direct) }
+{
+    DIRECT <= address && address < 0xD000_0000
+}
+
+/// Whether the TLB maps this address for the kernel.
+#[inline]
+pub fn is_mapped(address: u32) -> bool
+    ensures { IsTrue result ↔ (segment false address ≡ Mapped) }
+{
+    address < 0x8000_0000 || 0xD000_0000 <= address && address < 0xE000_0000
 }
 
 /// Where an offset in a physical page leads in a guest of so many pages.
@@ -82,11 +98,11 @@ fn located(
     ensures physical { IfOk result IsPhysical }
     ensures at { IfOk result (IsAt (address % 4096)) }
 {
-    if !space.user && DIRECT <= address && address < 0xD000_0000 {
+    if !space.user && is_direct(address) {
         let offset = address - DIRECT;
         return physical(pages, purpose, offset / 4096, offset % 4096);
     }
-    if address < 0x8000_0000 || !space.user && 0xD000_0000 <= address && address < 0xE000_0000 {
+    if address < 0x8000_0000 || !space.user && is_mapped(address) {
         return mapped(space, tlb, pages, purpose, address);
     }
     Err(Exception::AddressError(purpose, address))

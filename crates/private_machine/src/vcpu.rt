@@ -1,10 +1,10 @@
 //! One virtual processor of a guest.
-ghost use Rattle.std.specs.Prelude.{◌≡◌, ◌<◌, ◌%◌, IfOk};
+ghost use Rattle.std.specs.Prelude.{◌≡◌, ◌<◌, ◌%◌, false, IfOk};
 ghost use Rattle.base_words.specs.declared.instr.Cp0Op.TheVariants.{TlbRead};
 ghost use Rattle.base_words.specs.Tlb.{entry_written};
-ghost use Rattle.base_words.specs.Place.{place as place_of};
+ghost use Rattle.base_words.specs.Place.{place as place_of, segment};
 
-use crate::translation::{Space, place};
+use crate::translation::{Space, is_direct, is_mapped, place};
 use base_words::{Cp0Op, Entry, Exception, Place, Ppn, Regs, Use};
 use guest_tlb::Tlb48;
 use mips_cp0::Cp0;
@@ -36,6 +36,7 @@ pub struct Vcpu {
 
 impl Vcpu {
     ghost use Rattle.private_machine.specs.Vcpu.{started, space_of, raising, returning, ticking, system_done, held_entry};
+    ghost use Rattle.private_machine.specs.Everywhere.{is_everywhere};
     ghost use Rattle.private_machine.specs.Links.{is_linked, unlinked, unlinked_page};
     ghost use Rattle.private_machine.specs.Showing.{showing};
     ghost use Rattle.private_machine.specs.Translation.{IsWithin, IsPhysical, IsAligned};
@@ -82,6 +83,16 @@ impl Vcpu {
             asid: self.cp0.asid(),
         };
         place(space, &self.tlb, pages, unit, purpose, address)
+    }
+
+    /// Whether what its TLB and the direct segment give of an address is the same in every address space.
+    pub fn is_everywhere(&self, address: u32) -> bool
+        ensures { result ≡ is_everywhere self.now.tlb self.now.cp0.entry_hi.asid address (segment false address) }
+    {
+        if is_direct(address) {
+            return true;
+        }
+        is_mapped(address) && self.tlb.is_only_global(address, self.cp0.asid())
     }
 
     /// Takes an exception: coprocessor 0 keeps what it tells, and the processor goes on where it is handled.

@@ -1,6 +1,6 @@
 //! The virtual processors of a guest together.
 ghost use Rattle.std.specs.Prelude.{◌≡◌, ◌<◌, length, map};
-ghost use Rattle.private_machine.specs.Links.{unlinked_page, unlinked_others as unlinked_others_of};
+ghost use Rattle.private_machine.specs.Links.{unlinked, unlinked_page, unlinked_others as unlinked_others_of};
 ghost use Rattle.private_machine.specs.Showing.{shown_by, shown_from, showing_from};
 
 use crate::Vcpu;
@@ -16,6 +16,16 @@ pub fn unlink_others(vcpus: &mut [Vcpu], storing: usize, line: u32)
         if number != storing {
             vcpus[number].unlink(line);
         }
+    }
+}
+
+/// Clears the links of all to a line.
+#[inline]
+pub fn unlink_all(vcpus: &mut [Vcpu], line: u32)
+    ensures { vcpus.new ≡ map (unlinked line) vcpus.old }
+{
+    for number in 0..vcpus.len() {
+        vcpus[number].unlink(line);
     }
 }
 

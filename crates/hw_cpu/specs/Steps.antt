@@ -1,0 +1,50 @@
+-- What a step of the code is, by the definition of the hardware's step.
+use Rattle.std.specs.Prelude.{◌≡◌, ℕ, Bool, true, false, List, Result, Ok, Err}
+use Rattle.base_words.specs.declared.regs.Regs.{Regs}
+use Rattle.base_words.specs.declared.ids.FrameNo.{FrameNo}
+use Rattle.base_words.specs.declared.trap.HwStep.{HwStep}
+use Rattle.base_words.specs.declared.trap.HwStep.TheVariants as steps
+use Rattle.base_words.specs.declared.trap.TrapCause.{TrapCause}
+use Rattle.base_words.specs.declared.effect.Request.{Request}
+use Rattle.base_words.specs.declared.exception.Use.{Use}
+use Rattle.base_words.specs.Place.{Segment, Mapped, Direct, Outside}
+use Rattle.base_words.specs.Halves.{Half}
+use Rattle.private_machine.specs.Backing.{Held}
+use Rattle.private_machine.specs.Reaching.{Sight, Wanted, Reached as Place, Lack as Want, NoRange, NoHalf, DeadFrame, NoStore}
+use Rattle.private_machine.specs.DirectAccess.{Outcome}
+use Rattle.hw_cpu.specs.declared.reaching.Reached.{Reached}
+use Rattle.hw_cpu.specs.declared.reaching.Lack.{Lack}
+use Rattle.hw_cpu.specs.declared.reaching.Lack.TheVariants as lacks
+use Rattle.hw_cpu.specs.Site.{Site}
+
+-- what a processor goes by
+abbrev pub sight_of : Bool → ℕ → Bool → List Half → Site → Sight
+sight_of user asid line tlb site = record { user = user; asid = asid; line = line; tlb = tlb; lost = site.lost }
+
+abbrev pub wanted_at : Use → ℕ → ℕ → Wanted
+wanted_at purpose unit address = record { purpose = purpose; unit = unit; address = address }
+
+-- whether a range is one of the mode's
+abbrev pub is_within : Segment → Bool
+is_within Mapped = true
+is_within Direct = true
+is_within Outside = false
+
+-- what was reached, or why nothing was, as the definition says it
+abbrev pub place_of : Reached → Place
+place_of at = record { page = at.page.0; frame = at.frame.0 }
+
+abbrev pub want_of : Lack → Want
+want_of lacks.Range = NoRange
+want_of lacks.Half = NoHalf
+want_of (lacks.Dead frame) = DeadFrame frame.0
+want_of lacks.Store = NoStore
+
+abbrev pub found_of : Result Reached Lack → Result Place Want
+found_of (Ok at) = Ok (place_of at)
+found_of (Err lack) = Err (want_of lack)
+
+-- a step leaves what the definition says; a trap changes nothing
+abbrev pub Does : Result Outcome TrapCause → Regs → Regs → Held → Held → HwStep → Type 0
+Does outcome old new before after (steps.Direct access) = outcome ≡ Ok (record { access = access; after = record { registers = new; held = after } })
+Does outcome old new before after (steps.Trap cause) = (outcome ≡ Err cause) × (new ≡ old) × (after ≡ before)

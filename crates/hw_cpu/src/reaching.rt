@@ -1,0 +1,113 @@
+//! What an access reaches through the TLB.
+ghost use Rattle.std.specs.Prelude.{◌≡◌, ◌<◌, ◌/◌, ◌%◌, true, false, IfOk, find as find_of};
+ghost use Rattle.base_words.specs.Halves.{is_of};
+ghost use Rattle.base_words.specs.Place.{is_store as is_store_of, segment};
+ghost use Rattle.hw_tlb.specs.Tlb.{halves};
+ghost use Rattle.private_machine.specs.Serving.{Backs, BacksAlone, AllServe};
+ghost use Rattle.private_machine.specs.Reaching.{reached, through_half};
+ghost use Rattle.hw_cpu.specs.Steps.{sight_of, wanted_at, found_of, is_within};
+
+use crate::Bus;
+use base_words::{FrameNo, Ppn, Use};
+use hw_tlb::{HwAnswer, HwTlb};
+
+/// The page and the frame that an access reaches.
+#[derive(Clone, Copy, Debug, PartialEq, Eq)]
+pub struct Reached {
+    pub page: Ppn,
+    pub frame: FrameNo,
+}
+
+/// Why an access reaches no frame.
+#[derive(Clone, Copy, Debug, PartialEq, Eq)]
+pub enum Lack {
+    /// The address isn't aligned, or is out of the mode's ranges.
+    Range,
+    /// No valid half matches.
+    Half,
+    /// The half's frame lies in a cell that has failed.
+    Dead(FrameNo),
+    /// The half isn't writable.
+    Store,
+}
+
+/// The mode and the address space in which a processor steps.
+#[derive(Clone, Copy, Debug, PartialEq, Eq)]
+pub struct Mode {
+    pub user: bool,
+    pub asid: u8,
+}
+
+/// Whether an address lies in the mode's ranges.
+#[inline]
+fn is_in_range(user: bool, address: u32) -> bool
+    ensures { result ≡ is_within (segment user address) }
+{
+    address < 0x8000_0000 || !user && 0xC000_0000 <= address && address < 0xE000_0000
+}
+
+#[inline]
+fn is_store(purpose: Use) -> bool
+    ensures { result ≡ is_store_of purpose }
+{
+    match purpose {
+        Use::Fetch | Use::Load => false,
+        Use::Store => true,
+    }
+}
+
+/// By the half that matches. A frame that is dead counts before a half that isn't writable.
+#[inline]
+fn find<B: Bus>(
+    mode: Mode,
+    tlb: &HwTlb,
+    bus: &B,
+    purpose: Use,
+    address: u32,
+) -> Result<Reached, Lack>
+    requires { AllServe (B.held bus.now) (halves tlb.now) }
+    ensures found { found_of result ≡ through_half (sight_of mode.user mode.asid false (halves tlb.now) (B.site bus.now)) (wanted_at purpose 1 address) (find_of (is_of (address / 4096) mode.asid) (halves tlb.now)) }
+    ensures backed { IfOk result (λ at. Backs (B.held bus.now) at.page.0 at.frame.0) }
+    ensures alone { IfOk result (λ at. is_store_of purpose ≡ true → BacksAlone (B.held bus.now) at.page.0 at.frame.0) }
+{
+    match tlb.lookup(address, mode.asid, is_store(purpose)) {
+        HwAnswer::Hit(frame, page) => {
+            if bus.is_dead(frame) {
+                Err(Lack::Dead(frame))
+            } else {
+                Ok(Reached { page, frame })
+            }
+        }
+        HwAnswer::Miss => Err(Lack::Half),
+        HwAnswer::ReadOnly(frame) => {
+            if bus.is_dead(frame) {
+                Err(Lack::Dead(frame))
+            } else {
+                Err(Lack::Store)
+            }
+        }
+    }
+}
+
+/// The page and the frame that an access reaches, whose address has to be a multiple of `unit`; or why it reaches none.
+#[inline]
+pub fn reach<B: Bus>(
+    mode: Mode,
+    tlb: &HwTlb,
+    bus: &B,
+    purpose: Use,
+    unit: u32,
+    address: u32,
+) -> Result<Reached, Lack>
+    requires serves { AllServe (B.held bus.now) (halves tlb.now) }
+    requires some { 0 < unit }
+    ensures found { found_of result ≡ reached (sight_of mode.user mode.asid false (halves tlb.now) (B.site bus.now)) (wanted_at purpose unit address) }
+    ensures aligned { IfOk result (λ _. address % unit ≡ 0) }
+    ensures backed { IfOk result (λ at. Backs (B.held bus.now) at.page.0 at.frame.0) }
+    ensures alone { IfOk result (λ at. is_store_of purpose ≡ true → BacksAlone (B.held bus.now) at.page.0 at.frame.0) }
+{
+    if address % unit != 0 || !is_in_range(mode.user, address) {
+        return Err(Lack::Range);
+    }
+    find(mode, tlb, bus, purpose, address)
+}

@@ -1,0 +1,220 @@
+//! One step of a processor.
+ghost use Rattle.std.specs.Prelude.{◌≡◌, false, if◌then◌else◌};
+ghost use Rattle.base_words.specs.declared.trap.HwStep.TheVariants.{Direct};
+ghost use Rattle.mips_alu.specs.Execution.{passed};
+ghost use Rattle.hw_tlb.specs.Tlb.{halves};
+ghost use Rattle.private_machine.specs.Reaching.{Wanted, wanted};
+ghost use Rattle.private_machine.specs.OwnStep.{is_privileged as is_privileged_of};
+ghost use Rattle.private_machine.specs.HardwareStep.{accesses, decodes, fetch_trap, data_trap, cause_of};
+ghost use Rattle.private_machine.specs.DirectAccess.{outcome_of, hardware_outcome, store_told, load_told};
+ghost use Rattle.private_machine.specs.Serving.{AllServe};
+ghost use Rattle.hw_cpu.specs.Steps.{sight_of, place_of, want_of, Does};
+
+use crate::Bus;
+use crate::accesses::{load, load_linked, store, store_conditional, word_at};
+use crate::reaching::{Lack, Mode, Reached, reach};
+use base_words::{Access, Cp0Op, DataAccess, HwStep, Regs, Request, TrapCause, Use};
+use hw_tlb::HwTlb;
+use mips_alu::{advance, execute, load_unit, store_unit};
+use mips_isa::decode;
+
+/// The primary opcode of coprocessor 0.
+const COPROCESSOR_0: u32 = 16;
+
+/// Whether a word is of coprocessor 0.
+#[inline]
+fn is_privileged(word: u32) -> bool
+    ensures { result ≡ is_privileged_of word }
+{
+    word >> 26 == COPROCESSOR_0
+}
+
+/// Why a fetch traps.
+fn fetch_cause(lack: Lack) -> TrapCause
+    ensures { (w : Wanted) → result ≡ cause_of (fetch_trap w (want_of lack)) }
+{
+    match lack {
+        Lack::Range => TrapCause::Address(None),
+        Lack::Half | Lack::Store => TrapCause::FetchMiss,
+        Lack::Dead(frame) => TrapCause::Dead(frame),
+    }
+}
+
+/// Why the data access of an instruction's word traps.
+fn data_cause(word: u32, lack: Lack) -> TrapCause
+    ensures { (w : Wanted) → result ≡ cause_of (data_trap word w (want_of lack)) }
+{
+    match lack {
+        Lack::Range => TrapCause::Address(Some(word)),
+        Lack::Half => TrapCause::DataMiss(word),
+        Lack::Dead(frame) => TrapCause::Dead(frame),
+        Lack::Store => TrapCause::ReadOnly(word),
+    }
+}
+
+/// A step that was made, with its data access.
+#[inline]
+fn direct(fetched: Reached, access: DataAccess) -> HwStep
+    ensures { result ≡ Direct (record { fetched = fetched.frame; «data» = access }) }
+{
+    HwStep::Direct(Access {
+        fetched: fetched.frame,
+        data: access,
+    })
+}
+
+/// What an instruction asked of memory. A word of coprocessor 0 never comes here.
+#[inline]
+fn access<B: Bus>(
+    regs: &mut Regs,
+    mode: Mode,
+    tlb: &HwTlb,
+    bus: &mut B,
+    word: u32,
+    fetched: Reached,
+    request: Request,
+) -> HwStep
+    requires { AllServe (B.held bus.old) (halves tlb.now) }
+    ensures names { B.names bus.new ≡ B.names bus.old }
+    ensures site { B.site bus.new ≡ B.site bus.old }
+    ensures does { Does (outcome_of (B.site bus.old).stepping (B.held bus.old) (accesses (sight_of mode.user mode.asid false (halves tlb.now) (B.site bus.old)) word (place_of fetched) (record { registers = passed request regs.old; request = request }) (wanted request))) regs.old regs.new (B.held bus.old) (B.held bus.new) result }
+{
+    match request {
+        Request::Nothing => direct(fetched, DataAccess::NoData),
+        Request::Load {
+            kind,
+            address,
+            target,
+        } => match reach(mode, tlb, bus, Use::Load, load_unit(kind), address) {
+            Ok(at) => {
+                load(regs, bus, at, kind, address, target);
+                direct(
+                    fetched,
+                    DataAccess::Load {
+                        page: at.page,
+                        frame: at.frame,
+                    },
+                )
+            }
+            Err(lack) => HwStep::Trap(data_cause(word, lack)),
+        },
+        Request::Store {
+            kind,
+            address,
+            value,
+        } => match reach(mode, tlb, bus, Use::Store, store_unit(kind), address) {
+            Ok(at) => {
+                store(bus, at, kind, address, value);
+                advance(regs);
+                direct(
+                    fetched,
+                    DataAccess::Store {
+                        page: at.page,
+                        frame: at.frame,
+                    },
+                )
+            }
+            Err(lack) => HwStep::Trap(data_cause(word, lack)),
+        },
+        Request::LoadLinked { address, target } => {
+            match reach(mode, tlb, bus, Use::Load, 4, address) {
+                Ok(at) => {
+                    load_linked(regs, bus, at, address, target);
+                    direct(
+                        fetched,
+                        DataAccess::Load {
+                            page: at.page,
+                            frame: at.frame,
+                        },
+                    )
+                }
+                Err(lack) => HwStep::Trap(data_cause(word, lack)),
+            }
+        }
+        Request::StoreConditional {
+            address,
+            value,
+            target,
+        } => match reach(mode, tlb, bus, Use::Store, 4, address) {
+            Ok(at) => {
+                let made = store_conditional(regs, bus, at, address, value, target);
+                direct(fetched, conditional(made, at))
+            }
+            Err(lack) => HwStep::Trap(data_cause(word, lack)),
+        },
+        Request::ReadCp0 { .. } | Request::WriteCp0 { .. } => {
+            advance(regs);
+            direct(fetched, DataAccess::NoData)
+        }
+        Request::System(op) => {
+            if op != Cp0Op::ExceptionReturn {
+                advance(regs);
+            }
+            direct(fetched, DataAccess::NoData)
+        }
+    }
+}
+
+/// The access of a conditional store; one that isn't made is told as a load.
+fn conditional(made: bool, at: Reached) -> DataAccess
+    ensures { result ≡ (if made then store_told (place_of at) else load_told (place_of at)) }
+{
+    let Reached { page, frame } = at;
+    if made {
+        DataAccess::Store { page, frame }
+    } else {
+        DataAccess::Load { page, frame }
+    }
+}
+
+/// The instruction that was fetched.
+#[inline]
+fn decide<B: Bus>(
+    regs: &mut Regs,
+    mode: Mode,
+    tlb: &HwTlb,
+    bus: &mut B,
+    fetched: Reached,
+    word: u32,
+) -> HwStep
+    requires { AllServe (B.held bus.old) (halves tlb.now) }
+    ensures names { B.names bus.new ≡ B.names bus.old }
+    ensures site { B.site bus.new ≡ B.site bus.old }
+    ensures does { Does (outcome_of (B.site bus.old).stepping (B.held bus.old) (decodes (sight_of mode.user mode.asid false (halves tlb.now) (B.site bus.old)) regs.old (place_of fetched) word)) regs.old regs.new (B.held bus.old) (B.held bus.new) result }
+{
+    if is_privileged(word) {
+        return HwStep::Trap(TrapCause::Privileged(word));
+    }
+    match execute(&decode(word), regs) {
+        Ok(request) => access(regs, mode, tlb, bus, word, fetched, request),
+        Err(exception) => HwStep::Trap(TrapCause::Raised(exception)),
+    }
+}
+
+/// Makes one step, or tells why the processor traps, and then nothing changes. `line` tells whether an interrupt is enabled
+/// and pending.
+pub fn step<B: Bus>(
+    regs: &mut Regs,
+    user: bool,
+    asid: u8,
+    line: bool,
+    tlb: &HwTlb,
+    bus: &mut B,
+) -> HwStep
+    requires { AllServe (B.held bus.old) (halves tlb.now) }
+    ensures names { B.names bus.new ≡ B.names bus.old }
+    ensures site { B.site bus.new ≡ B.site bus.old }
+    ensures does { Does (hardware_outcome (sight_of user asid line (halves tlb.now) (B.site bus.old)) (B.site bus.old).stepping (B.held bus.old) regs.old) regs.old regs.new (B.held bus.old) (B.held bus.new) result }
+{
+    if line {
+        return HwStep::Trap(TrapCause::Line);
+    }
+    let mode = Mode { user, asid };
+    match reach(mode, tlb, bus, Use::Fetch, 4, regs.pc) {
+        Ok(at) => {
+            let word = word_at(bus, at, regs.pc);
+            decide(regs, mode, tlb, bus, at, word)
+        }
+        Err(lack) => HwStep::Trap(fetch_cause(lack)),
+    }
+}

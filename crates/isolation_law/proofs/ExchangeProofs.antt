@@ -1,0 +1,260 @@
+-- What each row changes of the frames that a guest holds.
+use Rattle.base_words.specs.declared.trap.DataAccess.{DataAccess}
+use Rattle.std.proofs.Common.{◌≡◌, ℕ, zero, suc, ◌+◌, ◌/◌, ◌<◌, ◌==◌, Bool, true, false, if◌then◌else◌, cond, Option, Some, None, List, [], ◌∷◌, ◌++◌, length, map, set, get_or, refl, sym, ap, ◌∙◌, arith}
+use Rattle.std.proofs.lemmas.List.Sums.{sum_by-cons}
+use Rattle.std.specs.Prelude.{flat_map, option_to_list, option_and_then, slice_get, remove}
+use Rattle.base_words.specs.declared.regs.Regs.{Regs}
+use Rattle.base_words.specs.Memory.{with_word}
+use Rattle.private_machine.specs.Reaching.{Reached}
+use Rattle.private_machine.specs.Backing.{Copy, Change, Migrates, Replicates, Collapses, Breaks, TakesShared, GivesShared, Move, Page, copies, with_bytes, stored_in, stored_through, with_first, no_page}
+use Rattle.private_machine.specs.Operation.{Operation}
+use Rattle.private_machine.specs.DirectAccess.{data_reached}
+use Rattle.private_machine.specs.PageMove.{target_of, left_by, named_by, begun, finished, taken, spares_finished, spares_taken}
+use Rattle.isolation_law.proofs.Stepping.{stored, stored_if, accessed, ticked, told, steps-after}
+use Rattle.base_words.specs.declared.trap.DataAccess.TheVariants as at_data
+use Rattle.private_machine.specs.PageMove.{target_in, held_for}
+use Rattle.isolation_law.specs.CellUse.{held}
+use Rattle.isolation_law.specs.DirectStep.{with_inputs, data_noted}
+use Rattle.isolation_law.specs.EndRows.{CellFailsIn, LetsGo, Ends}
+use Rattle.isolation_law.specs.Exchange.{count_of, Exchanged, gained, dropped, dropped_taken}
+use Rattle.isolation_law.specs.GuestState.{GuestState, page, with_page}
+use Rattle.isolation_law.specs.LoadRows.{Loads, Unloads, Acks}
+use Rattle.isolation_law.specs.MoveRows.{Fits, Begins, Finishes}
+use Rattle.isolation_law.specs.PacketRows.{ComesToHand, Receives, EndsDelivery, Discards}
+use Rattle.isolation_law.specs.RefillRow.{Refills}
+use Rattle.isolation_law.specs.SkipRow.{Skips}
+use Rattle.isolation_law.specs.StepAct.{at_hand}
+use Rattle.private_machine.specs.DeviceAct.{Act, StoresTo, ReadsDisk, WritesDisk, SendsPage, WritesEntry, NoAct}
+use Rattle.isolation_law.specs.StepRows.{act_done, Steps, Emulates, EndsRead}
+use Rattle.base_words.specs.declared.effect.Request.{Request}
+use Rattle.base_words.specs.declared.effect.Request.TheVariants as asks
+use Rattle.base_words.specs.declared.moves.By.{By}
+use Rattle.base_words.specs.declared.events.End.{End}
+use Rattle.base_words.specs.declared.moves.MoveKind.{MoveKind}
+use Rattle.isolation_law.proofs.LeaveProofs.{moving_within}
+use Rattle.isolation_law.proofs.LiveParts.{left-held, open-held}
+
+abbrev pub tally : (ℕ → ℕ → Bool) → List Copy → ℕ
+tally f [] = 0
+tally f (c ∷ cs) = cond (f c.frame c.generation) 1 0 + tally f cs
+
+pub tally-count : (f : ℕ → ℕ → Bool) (cs : List Copy) → count_of f cs ≡ tally f cs
+tally-count f [] = refl
+tally-count f (c ∷ cs) = sum_by-cons (λ (x : Copy). cond {A = ℕ} (f x.frame x.generation) 1 0) c cs ∙ ap (λ (n : ℕ). cond (f c.frame c.generation) 1 0 + n) (tally-count f cs)
+
+tally-append : (f : ℕ → ℕ → Bool) (cs ds : List Copy) → tally f (cs ++ ds) ≡ tally f cs + tally f ds
+tally-append f [] ds = omega arith
+tally-append f (c ∷ cs) ds = let rest = tally-append f cs ds in omega arith
+
+tally-remove : (f : ℕ → ℕ → Bool) (cs : List Copy) (i : ℕ) (x : Copy) → slice_get cs i ≡ Some x → tally f cs ≡ cond (f x.frame x.generation) 1 0 + tally f (remove cs i)
+tally-remove f [] i x e = cc
+tally-remove f (c ∷ cs) zero x e = let same : c ≡ x = cc in ap (λ (z : Copy). cond (f z.frame z.generation) 1 0 + tally f cs) same
+tally-remove f (c ∷ cs) (suc i) x e = let rest = tally-remove f cs i x e in omega arith
+
+flat-set : (f : ℕ → ℕ → Bool) (gs : List Page) (q : ℕ) (new : Page) → q < length gs → tally f (flat_map held_for (set gs q new)) + tally f (held_for (get_or gs q no_page)) ≡ tally f (flat_map held_for gs) + tally f (held_for new)
+flat-set f [] q new lt = absurd (omega arith)
+flat-set f (g ∷ gs) zero new lt = let a = tally-append f (held_for new) (flat_map held_for gs) in let b = tally-append f (held_for g) (flat_map held_for gs) in omega arith
+flat-set f (g ∷ gs) (suc q) new lt =
+    let a = tally-append f (held_for g) (flat_map held_for (set gs q new)) in
+    let b = tally-append f (held_for g) (flat_map held_for gs) in
+    let rest = flat-set f gs q new (omega arith) in omega arith
+
+flat-same : (f : ℕ → ℕ → Bool) (gs : List Page) (q : ℕ) (new : Page) → tally f (held_for new) ≡ tally f (held_for (get_or gs q no_page)) → tally f (flat_map held_for (set gs q new)) ≡ tally f (flat_map held_for gs)
+flat-same f [] q new same = refl
+flat-same f (g ∷ gs) zero new same = let a = tally-append f (held_for new) (flat_map held_for gs) in let b = tally-append f (held_for g) (flat_map held_for gs) in omega arith
+flat-same f (g ∷ gs) (suc q) new same =
+    let a = tally-append f (held_for g) (flat_map held_for (set gs q new)) in
+    let b = tally-append f (held_for g) (flat_map held_for gs) in
+    let rest = flat-same f gs q new same in omega arith
+
+-- nothing is gained or dropped
+abbrev pub Unchanged : GuestState → GuestState → Type 0
+Unchanged s t = (f : ℕ → ℕ → Bool) → tally f (held t) ≡ tally f (held s)
+
+pub unchanged : (s t : GuestState) → Unchanged s t → Exchanged s t [] []
+unchanged s t same = record { balance = λ f. let a = tally-count f (held t) in let b = tally-count f (held s) in let c = same f in ap (λ (n : ℕ). n + count_of f []) (a ∙ c ∙ sym b) }
+
+page-same : (s : GuestState) (q : ℕ) (new : Page) → ((f : ℕ → ℕ → Bool) → tally f (held_for new) ≡ tally f (held_for (page s q))) → Unchanged s (with_page s q new)
+page-same s q new same f =
+    let a = tally-append f (flat_map held_for (set s.pages q new)) s.spares in
+    let b = tally-append f (flat_map held_for s.pages) s.spares in
+    let c = flat-same f s.pages q new (same f) in omega arith
+
+-- a page and the spares are replaced
+exchange : (s t : GuestState) (q : ℕ) (new : Page) (spares : List Copy) (more less : List Copy) → q < length s.pages → held t ≡ flat_map held_for (set s.pages q new) ++ spares
+    → ((f : ℕ → ℕ → Bool) → tally f (held_for new) + tally f spares + tally f less ≡ tally f (held_for (page s q)) + tally f s.spares + tally f more) → Exchanged s t more less
+exchange s t q new spares more less lt is balanced = record {
+  balance = λ f.
+      let a = tally-append f (flat_map held_for (set s.pages q new)) spares in
+      let b = tally-append f (flat_map held_for s.pages) s.spares in
+      let c = flat-set f s.pages q new lt in
+      let d = balanced f in
+      let sum : tally f (flat_map held_for (set s.pages q new) ++ spares) + tally f less ≡ tally f (held s) + tally f more = omega arith in
+      (λ i. (ap (count_of f) is ∙ tally-count f (flat_map held_for (set s.pages q new) ++ spares)) i + tally-count f less i) ∙ sum ∙ (λ i. sym (tally-count f (held s)) i + sym (tally-count f more) i);
+}
+
+-- pages that keep their frames
+stored-tally : (f : ℕ → ℕ → Bool) (cs : List Copy) (frame o w : ℕ) → tally f (stored_in cs frame o w) ≡ tally f cs
+stored-tally f [] frame o w = refl
+stored-tally f (c ∷ cs) frame o w = elim (c.frame == frame) as (λ b. tally f (if b then with_bytes (with_word c.bytes o w) c ∷ cs else c ∷ stored_in cs frame o w) ≡ tally f (c ∷ cs)) [
+  | true ↦ refl
+  | false ↦ ap (λ (n : ℕ). cond (f c.frame c.generation) 1 0 + n) (stored-tally f cs frame o w)
+]
+
+stored-same : (f : ℕ → ℕ → Bool) (g : Page) (frame o w : ℕ) → tally f (held_for (stored_through g frame o w)) ≡ tally f (held_for g)
+stored-same f g frame o w = by (g.master.frame == frame)
+  where
+    by : (b : Bool) → tally f (held_for (if b then record g { master = with_bytes (with_word g.master.bytes o w) g.master } else record g { replicas = stored_in g.replicas frame o w })) ≡ tally f (held_for g)
+    by true = refl
+    by false =
+        let target = option_to_list (option_and_then target_in g.move) in
+        let a = tally-append f (stored_in g.replicas frame o w) target in
+        let b = tally-append f g.replicas target in
+        let c = stored-tally f g.replicas frame o w in omega arith
+
+stored-unchanged : (s : GuestState) (v : ℕ) (h : Reached) (a word : ℕ) → Unchanged s (stored s v h a word)
+stored-unchanged s v h a word = page-same s h.page (stored_through (page s h.page) h.frame _ word) (λ f. stored-same f (page s h.page) h.frame _ word)
+
+accessed-unchanged : (s : GuestState) (v : ℕ) (h : Reached) (regs : Regs) (r : Request) → Unchanged s (accessed s v h regs r)
+accessed-unchanged s v h regs asks.Nothing f = refl
+accessed-unchanged s v h regs (asks.Load kind address target) f = refl
+accessed-unchanged s v h regs (asks.Store kind address value) f = stored-unchanged s v h address _ f
+accessed-unchanged s v h regs (asks.LoadLinked address target) f = refl
+accessed-unchanged s v h regs (asks.StoreConditional address value target) f = by _
+  where
+    by : (b : Bool) → tally f (held (stored_if b s v h regs address value target)) ≡ tally f (held s)
+    by true = stored-unchanged s v h address value f
+    by false = refl
+accessed-unchanged s v h regs (asks.ReadCp0 number target) f = refl
+accessed-unchanged s v h regs (asks.WriteCp0 number value) f = refl
+accessed-unchanged s v h regs (asks.System op) f = refl
+
+noted-unchanged : (p : ℕ) (a : DataAccess) (s : GuestState) → Unchanged s (data_noted p a s)
+noted-unchanged p at_data.NoData s f = refl
+noted-unchanged p (at_data.Load page frame) s f = refl
+noted-unchanged p (at_data.Store page frame) s f = refl
+
+act-unchanged : (s : GuestState) (p v : ℕ) (a : Act) → Unchanged s (act_done s p v a)
+act-unchanged s p v (StoresTo q) f = refl
+act-unchanged s p v (ReadsDisk b q) f = page-same s q (with_first _ (page s q)) (λ f. refl) f
+act-unchanged s p v (WritesDisk b q) f = refl
+act-unchanged s p v (SendsPage q length to) f = refl
+act-unchanged s p v (WritesEntry index) f = refl
+act-unchanged s p v NoAct f = refl
+
+all-left : (p : ℕ) (gs : List Page) → flat_map held_for (map (left_by p) gs) ≡ flat_map held_for gs
+all-left p [] = refl
+all-left p (g ∷ gs) = λ i. left-held p g i ++ all-left p gs i
+
+-- the rows that keep all frames
+pub loads_exchange : (s t : GuestState) (p v : ℕ) → Loads s p v t → Exchanged s t [] []
+loads_exchange s t p v row = unchanged s t (λ f. ap (λ (x : GuestState). tally f (held x)) row.after)
+
+pub unloads_exchange : (s t : GuestState) (p : ℕ) → Unloads s p t → Exchanged s t [] []
+unloads_exchange s t p row = unchanged s t (λ f. ap (λ (x : GuestState). tally f (held x)) row.after ∙ ap (λ (l : List Copy). tally f (l ++ s.spares)) (all-left p s.pages))
+
+pub steps_exchange : (s t : GuestState) (p v : ℕ) → Steps s p v t → Exchanged s t [] []
+steps_exchange s t p v row =
+    let d = row.done in
+    let done = accessed (with_inputs s v) v (data_reached d) d.does.registers d.does.request in
+    unchanged s t (λ f.
+    ap (λ (x : GuestState). tally f (held x)) (steps-after s t p v row)
+    ∙ noted-unchanged p (told s v d) (ticked done v) f
+    ∙ accessed-unchanged (with_inputs s v) v (data_reached d) d.does.registers d.does.request f)
+
+pub refills_exchange : (s t : GuestState) (p : ℕ) → Refills s p t → Exchanged s t [] []
+refills_exchange s t p row = unchanged s t (λ f.
+    ap (λ (x : GuestState). tally f (held x)) row.after ∙ page-same s (row.offset / 4096) (named_by p (page s (row.offset / 4096))) (λ f. refl) f)
+
+pub acks_exchange : (s t : GuestState) (p q : ℕ) → Acks s p q t → Exchanged s t [] []
+acks_exchange s t p q row = unchanged s t (λ f.
+    ap (λ (x : GuestState). tally f (held x)) row.after ∙ page-same s q (left_by p (page s q)) (λ f. ap (tally f) (left-held p (page s q))) f)
+
+pub emulates_exchange : (s t : GuestState) (p v : ℕ) → Emulates s p v t → Exchanged s t [] []
+emulates_exchange s t p v row = unchanged s t (λ f. ap (λ (x : GuestState). tally f (held x)) row.after ∙ act-unchanged s p v (at_hand s v) f)
+
+pub receives_exchange : (s t : GuestState) (k : ℕ) → Receives s k t → Exchanged s t [] []
+receives_exchange s t k row = unchanged s t (λ f. ap (λ (x : GuestState). tally f (held x)) row.after ∙ page-same s row.q (with_first row.packet.bytes (page s row.q)) (λ f. refl) f)
+
+pub hand_exchange : (s t : GuestState) → ComesToHand s t → Exchanged s t [] []
+hand_exchange s t row = unchanged s t (λ f. ap (λ (x : GuestState). tally f (held x)) row.after)
+
+pub discards_exchange : (s t : GuestState) (k : ℕ) → Discards s k t → Exchanged s t [] []
+discards_exchange s t k row = unchanged s t (λ f. ap (λ (x : GuestState). tally f (held x)) row.after)
+
+pub skips_exchange : (s t : GuestState) (k : ℕ) → Skips s k t → Exchanged s t [] []
+skips_exchange s t k row = unchanged s t (λ f. ap (λ (x : GuestState). tally f (held x)) row.after)
+
+pub fails_exchange : (s t : GuestState) (c : ℕ) → CellFailsIn s c t → Exchanged s t [] []
+fails_exchange s t c row = unchanged s t (λ f. ap (λ (x : GuestState). tally f (held x)) row.after)
+
+-- a move begins
+begun-balance : (s : GuestState) (f : ℕ → ℕ → Bool) (g : Page) (n : ℕ) (change : Change) (operation : Option Operation) (rest : List Copy) → g.move ≡ None → Fits s n change operation rest
+    → tally f (held_for (begun change g)) + tally f rest + 0 ≡ tally f (held_for g) + tally f s.spares + tally f (gained change)
+begun-balance s f g n change operation rest free fits =
+    let was : tally f (held_for g) ≡ tally f (copies g) = ap (λ (o : Option Move). tally f (copies g ++ option_to_list (option_and_then target_in o))) free ∙ tally-append f (copies g) [] ∙ omega arith in
+    let is = tally-append f (copies g) (option_to_list (target_of change)) in
+    let rest_of = by change fits in
+    omega arith
+  where
+    by : (change : Change) → Fits s n change operation rest → tally f (option_to_list (target_of change)) + tally f rest ≡ tally f s.spares + tally f (gained change)
+    by (Migrates target) fits = let same = ap (tally f) fits.2 in omega arith
+    by (Replicates target) fits = let same = ap (tally f) fits.2 in omega arith
+    by Collapses fits = let same = ap (tally f) fits in omega arith
+    by (Breaks target) fits = let same = ap (tally f) fits.others in let out = tally-remove f s.spares fits.place target fits.is_it in omega arith
+    by (TakesShared target) fits = let same = ap (tally f) fits.1 in omega arith
+    by (GivesShared target) fits = let same = ap (tally f) fits.1 in omega arith
+
+pub begins_exchange : (s t : GuestState) (q : ℕ) (kind : MoveKind) (node : ℕ) (by : By) → (row : Begins s q kind node by t) → Exchanged s t (gained row.change) []
+begins_exchange s t q kind node by row =
+    exchange s t q (begun row.change (page s q)) row.rest (gained row.change) [] row.is_page (ap held row.after) (λ f. begun-balance s f (page s q) node row.change row.operation row.rest row.rests row.fits)
+
+-- a move is done
+done-balance : (f : ℕ → ℕ → Bool) (g : Page) (spares : List Copy) (change : Change)
+    → tally f (held_for (finished change g)) + tally f (spares_finished change spares) + tally f (dropped g change) ≡ tally f (copies g ++ option_to_list (target_of change)) + tally f spares + 0
+done-balance f g spares (Migrates target) = let a = tally-append f g.replicas [] in let b = tally-append f g.replicas (target ∷ []) in omega arith
+done-balance f g spares (Replicates target) =
+    let a = tally-append f (g.replicas ++ with_bytes g.master.bytes target ∷ []) [] in
+    let b = tally-append f g.replicas (with_bytes g.master.bytes target ∷ []) in
+    let c = tally-append f g.replicas (target ∷ []) in omega arith
+done-balance f g spares Collapses = let a = tally-append f g.replicas [] in omega arith
+done-balance f g spares (Breaks target) = let a = tally-append f g.replicas [] in let b = tally-append f g.replicas (target ∷ []) in omega arith
+done-balance f g spares (TakesShared target) = let a = tally-append f g.replicas [] in let b = tally-append f g.replicas (target ∷ []) in omega arith
+done-balance f g spares (GivesShared target) = let a = tally-append f g.replicas (target ∷ []) in let b = tally-append f spares (target ∷ []) in omega arith
+
+done-exchange : (s t : GuestState) (q : ℕ) (m : Move) → (page s q).move ≡ Some m → held t ≡ flat_map held_for (set s.pages q (finished m.change (page s q))) ++ spares_finished m.change s.spares → Exchanged s t [] (dropped (page s q) m.change)
+done-exchange s t q m is_open is =
+    exchange s t q (finished m.change (page s q)) (spares_finished m.change s.spares) [] (dropped (page s q) m.change) (moving_within s.pages q m is_open) is
+    (λ f. done-balance f (page s q) s.spares m.change ∙ ap (λ (l : List Copy). tally f l + tally f s.spares + 0) (sym (open-held (page s q) m is_open)))
+
+pub finishes_exchange : (s t : GuestState) (q : ℕ) → (row : Finishes s q t) → Exchanged s t [] (dropped (page s q) row.move.change)
+finishes_exchange s t q row = done-exchange s t q row.move row.open_move (ap held row.after)
+
+pub lets_go_exchange : (s t : GuestState) (q : ℕ) → (row : LetsGo s q t) → Exchanged s t [] (row.target ∷ [])
+lets_go_exchange s t q row = done-exchange s t q (record { change = TakesShared row.target; waiting = row.waiting }) row.open_move (ap held row.after)
+
+-- a page is taken shared
+taken-exchange : (s t : GuestState) (q : ℕ) (target : Copy) (waiting : List Bool) → (page s q).move ≡ Some (record { change = TakesShared target; waiting = waiting })
+    → held t ≡ flat_map held_for (set s.pages q (taken target (page s q))) ++ spares_taken (page s q) s.spares → Exchanged s t [] (dropped_taken (page s q))
+taken-exchange s t q target waiting is_open is =
+    let g = page s q in
+    let m : Move = record { change = TakesShared target; waiting = waiting } in
+    exchange s t q (taken target g) (spares_taken g s.spares) [] (dropped_taken g) (moving_within s.pages q m is_open) is
+    (λ f. by f g s.spares g.shared ∙ ap (λ (l : List Copy). tally f l + tally f s.spares + 0) (sym (open-held g m is_open)))
+  where
+    by : (f : ℕ → ℕ → Bool) (g : Page) (spares : List Copy) (b : Bool) → tally f (held_for (taken target g)) + tally f (if b then spares else spares ++ g.master ∷ []) + tally f (if b then g.master ∷ g.replicas else g.replicas) ≡ tally f (copies g ++ target ∷ []) + tally f spares + 0
+    by f g spares true = let a = tally-append f g.replicas (target ∷ []) in omega arith
+    by f g spares false = let a = tally-append f g.replicas (target ∷ []) in let b = tally-append f spares (g.master ∷ []) in omega arith
+
+pub ends_read_exchange : (s t : GuestState) (p v : ℕ) → (row : EndsRead s p v t) → Exchanged s t [] (dropped_taken (page s row.q))
+ends_read_exchange s t p v row = taken-exchange s t row.q row.target row.waiting row.open_move (ap held row.after)
+
+pub ends_delivery_exchange : (s t : GuestState) (k : ℕ) → (row : EndsDelivery s k t) → Exchanged s t [] (dropped_taken (page s row.q))
+ends_delivery_exchange s t k row = taken-exchange s t row.q row.target row.waiting row.open_move (ap held row.after)
+
+-- all frames are released
+pub ends_exchange : (s t : GuestState) (end : End) → Ends s end t → Exchanged s t [] (held s)
+ends_exchange s t end row = record {
+  balance = λ f.
+      (λ i. (ap (λ (x : GuestState). count_of f (held x)) row.after ∙ tally-count f []) i + tally-count f (held s) i) ∙ omega arith ∙ (λ i. sym (tally-count f (held s)) i + sym (tally-count f []) i);
+}

@@ -1,0 +1,6 @@
+-- By the half that was reached.
+use Rattle.isolation_law.proofs.rows.steps_reach_pages.Goals as goal
+use Rattle.isolation_law.proofs.DataWithinProofs.{data-within}
+
+pub returns : goal.returns
+returns c = data-within

@@ -1,0 +1,6 @@
+-- By the way of the fetch.
+use Rattle.isolation_law.proofs.rows.traps_hold.Goals as goal
+use Rattle.isolation_law.proofs.TrapWords.{holds-word}
+
+pub returns : goal.returns
+returns c = holds-word

@@ -1,0 +1,65 @@
+-- Which move the step at hand needs of a page, and which a packet needs.
+use Rattle.std.specs.Prelude.{ℕ, ◌==◌, if◌then◌else◌, Bool, true, false, not, ◌&&◌, length, List, [], ◌∷◌, Option, Some, None, is_none, slice_get}
+use Rattle.base_words.specs.declared.moves.MoveKind.{MoveKind}
+use Rattle.base_words.specs.declared.moves.MoveKind.TheVariants.{Collapse, Break, TakeShared, GiveShared}
+use Rattle.private_machine.specs.Backing.{Copy}
+use Rattle.private_machine.specs.Operation.{Packet, Operation, ReadsBlock, Delivers}
+use Rattle.isolation_law.specs.Surroundings.{cell_of_frame, home_cell}
+use Rattle.isolation_law.specs.GuestState.{GuestState, page, block, is_dead, hand_place}
+use Rattle.private_machine.specs.DeviceAct.{Act, StoresTo, ReadsDisk, WritesDisk, SendsPage, WritesEntry, NoAct}
+
+-- a move that has to be over before the step, with its operation where it takes a page shared
+pub record Need : Type 0 where
+  pub page : ℕ
+  pub kind : MoveKind
+  pub operation : Option Operation
+
+abbrev pub none_of : List Copy → Bool
+none_of [] = true
+none_of (c ∷ cs) = false
+
+-- before the guest's bytes in a page change
+abbrev pub for_change : GuestState → ℕ → Option Need
+for_change s q =
+    if (page s q).shared then Some (record { page = q; kind = Break; operation = None })
+    else if none_of (page s q).replicas then None
+    else Some (record { page = q; kind = Collapse; operation = None })
+
+-- a block may be shared that the guest hasn't written, where its home cell lives
+abbrev pub may_share_block : GuestState → ℕ → Bool
+may_share_block s b = is_none (block s b).overlay && not (is_dead s (home_cell s.around))
+
+abbrev pub for_read : GuestState → ℕ → Bool → ℕ → ℕ → Option Need
+for_read s v shares b q =
+    if shares && may_share_block s b then Some (record { page = q; kind = TakeShared; operation = Some (ReadsBlock v b) })
+    else for_change s q
+
+abbrev pub is_home_of_receiver : ℕ → Option ℕ → Bool
+is_home_of_receiver cell None = false
+is_home_of_receiver cell (Some home) = cell == home
+
+-- a page may be offered as a frame that is sent whole to another guest, on whose home cell the frame lies
+abbrev pub may_offer : GuestState → ℕ → ℕ → ℕ → Bool
+may_offer s q length to =
+    (length == 4096) && (not (to == s.around.guest) && is_home_of_receiver (cell_of_frame s.around (page s q).master.frame) (slice_get s.around.homes to))
+
+abbrev pub for_send : GuestState → Bool → ℕ → ℕ → ℕ → Option Need
+for_send s shares q length to =
+    if shares && (may_offer s q length to && not (page s q).shared) then Some (record { page = q; kind = GiveShared; operation = None })
+    else None
+
+-- the move that a step needs, where it is to share or to copy
+abbrev pub needed : GuestState → ℕ → Bool → Act → Option Need
+needed s v shares (StoresTo q) = for_change s q
+needed s v shares (ReadsDisk b q) = for_read s v shares b q
+needed s v shares (WritesDisk b q) = None
+needed s v shares (SendsPage q length to) = for_send s shares q length to
+needed s v shares (WritesEntry index) = None
+needed s v shares NoAct = None
+
+-- the same of the packet in hand, which comes into a page
+abbrev pub for_packet : GuestState → Bool → Packet → ℕ → Option Need
+for_packet s shares packet q =
+    if shares && (length packet.bytes == 4096)
+    then Some (record { page = q; kind = TakeShared; operation = Some (Delivers (hand_place s) packet) })
+    else for_change s q

@@ -1,0 +1,84 @@
+//! What one entry keeps and does, and how a run grows by it: for the calls that make entries.
+ghost use Rattle.std.specs.Prelude.{◌≡◌, ◌≢◌, ◌⊎◌, ℕ, ◌/◌, List, [], ◌∷◌, ◌++◌, ◌≤◌, length, true, None, Some, Ok, Err};
+ghost use Rattle.base_words.specs.declared.events.Event.{Event};
+ghost use Rattle.private_machine.specs.PrivateRun.{private_run};
+ghost use Rattle.base_words.specs.declared.regs.Regs.{Regs};
+ghost use Rattle.private_machine.specs.Backing.{Page};
+ghost use Rattle.private_machine.specs.HardwareStep.{Trap, Done, ReadOnly, hardware_step, cause_of};
+ghost use Rattle.private_machine.specs.DirectAccess.{data_told, data_reached};
+ghost use Rattle.base_words.specs.declared.place.Place.TheVariants.{Memory};
+ghost use Rattle.private_machine.specs.OwnStep.{joined, led};
+ghost use Rattle.private_machine.specs.TrapAccess.{HoldsWord};
+ghost use Rattle.private_machine.specs.Reaching.{Sight, Wanted};
+ghost use Rattle.private_machine.specs.Serving.{AllServe};
+ghost use Rattle.private_machine.specs.TrapAccess.{TellsAccess};
+ghost use Rattle.isolation_law.specs.GuestState.{GuestState, page, processor};
+ghost use Rattle.isolation_law.specs.Traps.{step_on};
+ghost use Rattle.isolation_law.specs.DataWithin.{IsWithinPages};
+ghost use Rattle.isolation_law.specs.DirectStep.{held_of, with_inputs};
+ghost use Rattle.isolation_law.specs.Content.{content};
+ghost use Rattle.isolation_law.specs.Coherence.{Coherent};
+ghost use Rattle.isolation_law.specs.LiveCells.{UsesLive};
+ghost use Rattle.isolation_law.specs.OwnHistory.{own};
+ghost use Rattle.isolation_law.specs.PacketRows.{ComesToHand};
+ghost use Rattle.isolation_law.specs.MachineEvent.{Row};
+ghost use Rattle.isolation_law.specs.Run.{Run};
+ghost use Rattle.isolation_law.specs.SecondServes.{SecondServes};
+
+/// Each entry by itself keeps coherence, and does to what the guest sees its own event, or nothing; and what stands around the
+/// guest never changes.
+pub fn row_keeps()
+    ensures coherent { (s t : GuestState) (e : Event) → Coherent s → Row s e t → t.end ≡ None → Coherent t }
+    ensures uses_live { (s t : GuestState) (e : Event) → UsesLive s → Row s e t → UsesLive t }
+    ensures same { (s t : GuestState) (e : Event) → Coherent s → Row s e t → t.end ≡ None → content t ≡ private_run (content s) (own t.received (e ∷ [])) }
+    ensures console { (s t : GuestState) (e : Event) → Coherent s → Row s e t → t.devices.console ≡ (private_run (content s) (own t.received (e ∷ []))).devices.console }
+    ensures sent { (s t : GuestState) (e : Event) → Coherent s → Row s e t → t.devices.sent ≡ (private_run (content s) (own t.received (e ∷ []))).devices.sent }
+    ensures around { (s t : GuestState) (e : Event) → Row s e t → t.around ≡ s.around }
+{}
+
+/// So does a packet that comes to hand, which is no entry.
+pub fn hand_keeps()
+    ensures coherent { (s t : GuestState) → Coherent s → ComesToHand s t → Coherent t }
+    ensures uses_live { (s t : GuestState) → UsesLive s → ComesToHand s t → UsesLive t }
+    ensures same { (s t : GuestState) → ComesToHand s t → content t ≡ content s }
+    ensures around { (s t : GuestState) → ComesToHand s t → t.around ≡ s.around }
+{}
+
+/// A run and an entry are a run; so are a run and a packet that comes to hand, and a run and a run.
+pub fn run_grows()
+    ensures none { (s : GuestState) → Run s [] s }
+    ensures row { (s m t : GuestState) (journal : List Event) (e : Event) → Run s journal m → Row m e t → Run s (journal ++ e ∷ []) t }
+    ensures hand { (s m t : GuestState) (journal : List Event) → Run s journal m → ComesToHand m t → Run s journal t }
+    ensures run { (s m t : GuestState) (journal more : List Event) → Run s journal m → Run m more t → Run s (journal ++ more) t }
+{}
+
+/// Each valid half of a processor can be read, and where it is writable be written: what a step of a processor asks for.
+pub fn halves_serve()
+    ensures { (s : GuestState) (p : ℕ) → Coherent s → length s.pages ≤ 0xFFFF → AllServe (held_of s) (processor s p).tlb }
+{}
+
+/// What the monitor is told of a trap tells which access it was for.
+pub fn traps_tell()
+    ensures { (x : Sight) (pages : List Page) (regs : Regs) (trap : Trap) → hardware_step x pages regs ≡ Err trap → TellsAccess regs trap }
+{}
+
+/// What the monitor is told of a trap is so: the word that it names stands at the program counter.
+pub fn traps_hold()
+    ensures { (s : GuestState) (p v : ℕ) (trap : Trap) → Coherent s → (processor s p).loaded ≡ Some v → step_on s p v ≡ Err trap → HoldsWord (joined (content s) v) v (cause_of trap) }
+{}
+
+/// A store that traps at a half that isn't writable, and that the guest grants on memory, is into a page that is shared or has
+/// replicas: it needs a move.
+pub fn read_only_needs()
+    ensures { (s : GuestState) (p v word : ℕ) (w : Wanted) (offset : ℕ) → Coherent s → (processor s p).loaded ≡ Some v → step_on s p v ≡ Err (ReadOnly word w) → led (content s) v w.unit w.purpose w.address ≡ Ok (Memory offset) → ((page s (offset / 4096)).shared ≡ true) ⊎ ((page s (offset / 4096)).replicas ≢ []) }
+{}
+
+/// The data access that is told of a step is on a page of the guest.
+pub fn steps_reach_pages()
+    ensures { (s : GuestState) (p v : ℕ) (d : Done) → Coherent s → step_on s p v ≡ Ok d → IsWithinPages (length s.pages) (data_told v (data_reached d) d.does.request (held_of (with_inputs s v))) }
+{}
+
+/// What a second-level entry says of an address is what the guest's own TLB says.
+pub fn second_level_serves()
+    ensures { SecondServes }
+{}

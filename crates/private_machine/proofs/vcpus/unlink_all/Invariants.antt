@@ -1,0 +1,7 @@
+use Rattle.std.proofs.Common.{map}
+use Rattle.private_machine.specs.Links.{unlinked}
+use Rattle.private_machine.proofs.Turns.{SoFar}
+use Rattle.private_machine.proofs.vcpus.unlink_all.Given as goal
+
+abbrev pub invariant-loop-number : goal.invariant-loop-number
+invariant-loop-number l = SoFar l.number l.vcpus l.initial.vcpus (map (unlinked l.line) l.initial.vcpus)

@@ -1,0 +1,73 @@
+-- How a move of a page begins, is acknowledged and ends: the page and the guest's spare frames.
+use Rattle.std.specs.Prelude.{ℕ, true, false, List, [], ◌∷◌, ◌++◌, Option, Some, None, option_map, option_to_list, option_and_then, flat_map, slice_set, if◌then◌else◌}
+use Rattle.base_words.specs.declared.moves.MoveKind.{MoveKind}
+use Rattle.base_words.specs.declared.moves.MoveKind.TheVariants.{Migrate, Replicate, Collapse, Break, TakeShared, GiveShared}
+use Rattle.private_machine.specs.Backing.{Copy, Change, Migrates, Replicates, Collapses, Breaks, TakesShared, GivesShared, Move, Page, copies, with_bytes}
+
+-- what a move is called, and its target
+abbrev pub kind_of : Change → MoveKind
+kind_of (Migrates target) = Migrate
+kind_of (Replicates target) = Replicate
+kind_of Collapses = Collapse
+kind_of (Breaks target) = Break
+kind_of (TakesShared target) = TakeShared
+kind_of (GivesShared target) = GiveShared
+
+abbrev pub target_of : Change → Option Copy
+target_of (Migrates target) = Some target
+target_of (Replicates target) = Some target
+target_of Collapses = None
+target_of (Breaks target) = Some target
+target_of (TakesShared target) = Some target
+target_of (GivesShared target) = Some target
+
+-- a page's master, replicas and target
+abbrev pub target_in : Move → Option Copy
+target_in m = target_of m.change
+
+abbrev pub held_for : Page → List Copy
+held_for g = copies g ++ option_to_list (option_and_then target_in g.move)
+
+-- pages and spares hold a frame once for each place in which it stands
+abbrev pub held_in : List Page → List Copy → List Copy
+held_in pages spares = flat_map held_for pages ++ spares
+
+-- a move begins; all that name the page have to acknowledge it
+abbrev pub begun : Change → Page → Page
+begun change g = record g { move = Some (record { change = change; waiting = g.mapped }) }
+
+-- a processor's TLB names the page
+abbrev pub named_by : ℕ → Page → Page
+named_by p g = record g { mapped = slice_set g.mapped p true }
+
+-- it no longer does, and has acknowledged a move of it
+abbrev pub acknowledged : ℕ → Move → Move
+acknowledged p m = record m { waiting = slice_set m.waiting p false }
+
+abbrev pub left_by : ℕ → Page → Page
+left_by p g = record g { mapped = slice_set g.mapped p false; move = option_map (acknowledged p) g.move }
+
+-- a move is done, and the bytes of the master at this moment are its target's
+abbrev pub finished : Change → Page → Page
+finished (Migrates target) g = record g { master = with_bytes g.master.bytes target; move = None }
+finished (Replicates target) g = record g { replicas = g.replicas ++ with_bytes g.master.bytes target ∷ []; move = None }
+finished Collapses g = record g { replicas = []; move = None }
+finished (Breaks target) g = record g { master = with_bytes g.master.bytes target; shared = false; move = None }
+finished (TakesShared target) g = record g { move = None }
+finished (GivesShared target) g = record g { shared = true; replicas = []; move = None }
+
+-- the page once the operation for which it is taken shared has ended that move
+abbrev pub taken : Copy → Page → Page
+taken target g = record g { master = target; shared = true; replicas = []; move = None }
+
+-- the spares after a move is done, and after a page was taken shared
+abbrev pub spares_finished : Change → List Copy → List Copy
+spares_finished (Migrates target) spares = spares
+spares_finished (Replicates target) spares = spares
+spares_finished Collapses spares = spares
+spares_finished (Breaks target) spares = spares
+spares_finished (TakesShared target) spares = spares
+spares_finished (GivesShared target) spares = spares ++ target ∷ []
+
+abbrev pub spares_taken : Page → List Copy → List Copy
+spares_taken g spares = if g.shared then spares else spares ++ g.master ∷ []
