@@ -1,0 +1,6 @@
+pub mod Frames
+pub mod OpenMoves
+pub mod Replicas
+pub mod BackedPages
+pub mod PageMap
+pub mod GivingUp

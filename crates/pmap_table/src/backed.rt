@@ -1,0 +1,126 @@
+//! A page and what backs it.
+ghost use Rattle.std.specs.Prelude.{◌≡◌, ◌<◌, ◌≤◌, ◌%◌, true, false, length, option_map};
+ghost use Rattle.base_words.specs.Memory.{word_at};
+ghost use Rattle.private_machine.specs.Backing.{copies, has_frame, bytes_through, nearest as nearest_of, stored_through, with_first};
+ghost use Rattle.private_machine.specs.PageMove.{named_by, left_by};
+ghost use Rattle.pmap_table.specs.OpenMoves.{told};
+ghost use Rattle.pmap_table.specs.BackedPages.{own_page};
+
+use crate::OpenMove;
+use crate::master::Master;
+use crate::open_move::PendingMove;
+use crate::replicas::Replicas;
+use base_words::{Frame, FrameNo, NodeId, ProcId, ProcSet};
+use std::marker::Model;
+
+/// A page: its master, the processors whose TLBs may name it, its open move and its replicas.
+#[derive(Drop)]
+pub(crate) struct BackedPage {
+    pub(crate) master: Master,
+    pub(crate) mapped: ProcSet,
+    pub(crate) pending: Option<PendingMove>,
+    pub(crate) replicas: Replicas,
+}
+
+impl Model for BackedPage {
+    ghost use Rattle.private_machine.specs.Backing.{Page};
+
+    ghost Value = { Page };
+
+    ghost use Rattle.pmap_table.specs.BackedPages.{page_of};
+
+    ghost view = { page_of };
+}
+
+impl BackedPage {
+    /// A page that a frame of the guest's own backs.
+    pub(crate) fn owning(frame: Frame) -> Self
+        ensures { result ≡ own_page frame }
+    {
+        BackedPage {
+            master: Master::Own(frame),
+            mapped: ProcSet::empty(),
+            pending: None,
+            replicas: Replicas::none(),
+        }
+    }
+
+    /// The word at an offset on one of the frames of the page.
+    #[inline]
+    pub(crate) fn word_on(&self, frame: FrameNo, offset: u32) -> u32
+        requires backed { has_frame (copies self.now) frame.0 ≡ true }
+        requires within { offset < 4096 }
+        requires aligned { offset % 4 ≡ 0 }
+        ensures { result ≡ word_at (bytes_through self.now frame.0) offset }
+    {
+        if self.master.number().0 == frame.0 {
+            self.master.page().word_at(offset)
+        } else {
+            self.replicas.page_on(frame).word_at(offset)
+        }
+    }
+
+    /// The frame by which a node reaches the page, where each node has so many frames.
+    pub(crate) fn nearest(&self, node: NodeId, frames: u32) -> FrameNo
+        requires { 0 < frames }
+        ensures { result.0 ≡ nearest_of frames node.0 self.now }
+    {
+        let master = self.master.number();
+        if master.0 / frames == u32::from(node.0) {
+            return master;
+        }
+        match self.replicas.on_node(frames, node) {
+            Some(replica) => replica,
+            None => master,
+        }
+    }
+
+    /// Replaces the word at an offset of the master.
+    #[inline]
+    pub(crate) fn set_word(&mut self, offset: u32, word: u32)
+        requires own { self.old.shared ≡ false }
+        requires within { offset < 4096 }
+        requires aligned { offset % 4 ≡ 0 }
+        ensures { self.new ≡ stored_through self.old self.old.master.frame offset word }
+    {
+        self.master.set_word(offset, word);
+    }
+
+    /// Replaces the first bytes of the master.
+    pub(crate) fn fill(&mut self, bytes: &[u8])
+        requires own { self.old.shared ≡ false }
+        requires fits { length bytes.now ≤ 4096 }
+        ensures { self.new ≡ with_first bytes.now self.old }
+    {
+        self.master.fill(bytes);
+    }
+
+    /// A processor's TLB may name the page from now on.
+    pub(crate) fn map(&mut self, processor: ProcId)
+        requires { processor.0 < 16 }
+        ensures { self.new ≡ named_by processor.0 self.old }
+    {
+        self.mapped = self.mapped.with(processor);
+    }
+
+    /// A processor's TLB no longer names the page, by which the processor has acknowledged its open move.
+    pub(crate) fn unmap(&mut self, processor: ProcId)
+        requires { processor.0 < 16 }
+        ensures { self.new ≡ left_by processor.0 self.old }
+    {
+        self.mapped = self.mapped.without(processor);
+        if let Some(pending) = &mut self.pending {
+            pending.waiting = pending.waiting.without(processor);
+        }
+    }
+
+    /// The open move of the page.
+    pub(crate) fn open_move(&self) -> Option<OpenMove>
+        ensures { result ≡ option_map told self.now.move }
+    {
+        match &self.pending {
+            Some(pending) => Some(pending.told()),
+            None => None,
+        }
+    }
+}

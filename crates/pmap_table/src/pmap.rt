@@ -1,0 +1,196 @@
+//! The table of a guest's pages.
+ghost use Rattle.std.specs.Prelude.{◌≡◌, true, ◌<◌, ◌≤◌, ◌^◌, ◌↔◌, [], IsTrue, IfOk, OnOk, OnErr, length, map, option_map};
+ghost use Rattle.base_words.specs.Membership.{IsMember};
+ghost use Rattle.private_machine.specs.Backing.{page_at, copies, has_frame, nearest as nearest_of};
+ghost use Rattle.private_machine.specs.PageMove.{named_by, left_by};
+ghost use Rattle.pmap_table.specs.OpenMoves.{told};
+ghost use Rattle.pmap_table.specs.BackedPages.{own_page};
+ghost use Rattle.pmap_table.specs.PageMap.{with_page};
+
+use crate::OpenMove;
+use crate::backed::BackedPage;
+use base_words::{Frame, FrameList, FrameNo, NodeId, Ppn, ProcId, ProcSet, Shape};
+use std::alloc::{AllocError, Global};
+use std::marker::Model;
+
+/// A guest's pages and its spare frames.
+#[derive(Drop)]
+pub struct Pmap {
+    pub(crate) pages: Vec<BackedPage>,
+    pub(crate) spares: Vec<Frame>,
+    /// How many pages have an open move.
+    pub(crate) moving: u32,
+    /// How many more spares can come with no memory, beside one from each open move.
+    pub(crate) room: u32,
+    // Here is the place for two kinds of sets: for each processor, the pages whose moves it hasn't acknowledged, and the pages whose
+    // moves are acknowledged by all, so that the lowest of each is found without a search.
+}
+
+impl Model for Pmap {
+    ghost use Rattle.pmap_table.specs.PageMap.{PageMap};
+
+    ghost Value = { PageMap };
+
+    ghost use Rattle.pmap_table.specs.PageMap.{map_of, IsSound};
+
+    ghost view = { map_of };
+
+    ghost invariant = { IsSound };
+}
+
+impl Pmap {
+    /// A page for each of these frames, in order, and no spares.
+    pub fn boot(alloc: Global, frames: FrameList) -> Result<Pmap, AllocError>
+        requires { length frames < 2 ^ 32 }
+        ensures pages { IfOk result (λ pmap. pmap.pages ≡ map own_page frames) }
+        ensures spares { IfOk result (λ pmap. pmap.spares ≡ []) }
+    {
+        Ok(Pmap {
+            pages: own_pages(alloc, frames)?,
+            spares: Vec::new(alloc),
+            moving: 0,
+            room: 0,
+        })
+    }
+
+    /// Makes room for one more spare, beside those that the ends of open moves will bring. Pages and spares stay.
+    #[inline]
+    pub fn reserve(&mut self) -> Result<(), AllocError>
+        ensures pages { self.new.pages ≡ self.old.pages }
+        ensures spares { self.new.spares ≡ self.old.spares }
+        ensures room { OnOk result (0 < self.new.room) }
+        ensures kept { self.old.room ≤ self.new.room }
+        ensures err { OnErr result (self.new ≡ self.old) }
+    {
+        if self.room == 0 {
+            self.make_room()?;
+        }
+        Ok(())
+    }
+
+    /// Makes room for one more spare where there is none.
+    #[cold]
+    #[inline(never)]
+    fn make_room(&mut self) -> Result<(), AllocError>
+        requires { self.old.room ≡ 0 }
+        ensures pages { self.new.pages ≡ self.old.pages }
+        ensures spares { self.new.spares ≡ self.old.spares }
+        ensures room { OnOk result (0 < self.new.room) }
+        ensures err { OnErr result (self.new ≡ self.old) }
+    {
+        if self.spares.len() as u32 + self.moving == u32::MAX {
+            return Err(AllocError);
+        }
+        self.spares.reserve(self.moving as usize + 1)?;
+        self.room = 1;
+        Ok(())
+    }
+
+    /// A page and what backs it.
+    #[inline]
+    pub(crate) fn at(&self, page: Ppn) -> &BackedPage
+        requires { page.0 < length self.now.pages }
+        ensures { result.now ≡ page_at self.now.pages page.0 }
+    {
+        &self.pages[page.0 as usize]
+    }
+
+    /// How many pages there are.
+    pub fn len(&self) -> u32
+        ensures { result ≡ length self.now.pages }
+    {
+        self.pages.len() as u32
+    }
+
+    /// Whether there are no pages.
+    pub fn is_empty(&self) -> bool
+        ensures { IsTrue result ↔ (self.now.pages ≡ []) }
+    {
+        self.pages.is_empty()
+    }
+
+    /// How many spare frames there are.
+    pub fn spares(&self) -> u32
+        ensures { result ≡ length self.now.spares }
+    {
+        self.spares.len() as u32
+    }
+
+    /// The number of a page's master.
+    #[inline]
+    pub fn master(&self, page: Ppn) -> FrameNo
+        requires { page.0 < length self.now.pages }
+        ensures { result.0 ≡ (page_at self.now.pages page.0).master.frame }
+    {
+        self.at(page).master.number()
+    }
+
+    /// The generation under which a page's master is held.
+    pub fn generation(&self, page: Ppn) -> u32
+        requires { page.0 < length self.now.pages }
+        ensures { result ≡ (page_at self.now.pages page.0).master.generation }
+    {
+        self.at(page).master.generation()
+    }
+
+    /// The frame by which a node reaches a page: a master or replica that lies on the node, else the master.
+    pub fn nearest(&self, page: Ppn, node: NodeId, shape: &Shape) -> FrameNo
+        requires { page.0 < length self.now.pages }
+        ensures frame { result.0 ≡ nearest_of shape.now.frames node.0 (page_at self.now.pages page.0) }
+        ensures backed { has_frame (copies (page_at self.now.pages page.0)) result.0 ≡ true }
+    {
+        self.at(page).nearest(node, shape.frames)
+    }
+
+    /// Whether others may hold a page's master too.
+    pub fn is_shared(&self, page: Ppn) -> bool
+        requires { page.0 < length self.now.pages }
+        ensures { result ≡ (page_at self.now.pages page.0).shared }
+    {
+        self.at(page).master.is_shared()
+    }
+
+    /// How many replicas a page has.
+    pub fn replicas(&self, page: Ppn) -> u32
+        requires { page.0 < length self.now.pages }
+        ensures { result ≡ length (page_at self.now.pages page.0).replicas }
+    {
+        self.at(page).replicas.len()
+    }
+
+    /// The processors whose TLBs may name a page.
+    pub fn mapped(&self, page: Ppn) -> ProcSet
+        requires { page.0 < length self.now.pages }
+        ensures { result ≡ (page_at self.now.pages page.0).mapped }
+    {
+        self.at(page).mapped
+    }
+
+    /// Whether a processor's TLB may name a page.
+    pub fn is_mapped(&self, page: Ppn, processor: ProcId) -> bool
+        requires page { page.0 < length self.now.pages }
+        requires processor { processor.0 < 16 }
+        ensures { IsTrue result ↔ IsMember (page_at self.now.pages page.0).mapped processor.0 }
+    {
+        self.at(page).mapped.has(processor)
+    }
+
+    /// The open move of a page.
+    pub fn open_move(&self, page: Ppn) -> Option<OpenMove>
+        requires { page.0 < length self.now.pages }
+        ensures { result ≡ option_map told (page_at self.now.pages page.0).move }
+    {
+        self.at(page).open_move()
+    }
+}
+
+/// A page for each of these frames, in order.
+fn own_pages(alloc: Global, frames: FrameList) -> Result<Vec<BackedPage>, AllocError>
+    ensures { IfOk result (λ pages. pages.items ≡ map own_page frames) }
+{
+    frames
+        .into_vec()
+        .into_iter()
+        .map(|frame| BackedPage::owning(frame))
+        .collect(alloc)
+}
