@@ -1,0 +1,10 @@
+pub mod LinkLemmas
+pub mod BetweenLemmas
+pub mod JoinLemmas
+pub mod NotingLemmas
+pub mod ShownLemmas
+pub mod DirectRow
+pub mod PlainLemmas
+pub mod VecLemmas
+pub mod PlaceLemmas
+pub mod StepProofs

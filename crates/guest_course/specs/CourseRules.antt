@@ -1,0 +1,72 @@
+-- What holds of a guest's parts at every moment.
+use Rattle.std.specs.Prelude.{◌≡◌, ℕ, suc, ◌+◌, ◌*◌, ◌<◌, ◌≤◌, false, List, [], ◌∷◌, Some, None, length}
+use Rattle.base_words.specs.declared.trap.DataAccess.{DataAccess}
+use Rattle.base_words.specs.declared.trap.DataAccess.TheVariants as access
+use Rattle.private_machine.specs.Backing.{Page, page_at}
+use Rattle.page_policy.specs.Pages.{AreCounters}
+use Rattle.guest_devs.specs.Shown.{Agree}
+use Rattle.isolation_law.specs.Surroundings.{Surroundings, node_of_processor}
+use Rattle.isolation_law.specs.GuestState.{processor}
+use Rattle.isolation_law.specs.Phases.{all_halted}
+use Rattle.isolation_law.specs.Coherence.{Coherent}
+use Rattle.guest_course.specs.declared.place.Place.{Place}
+use Rattle.guest_course.specs.declared.course.Course.{Course}
+use Rattle.guest_course.specs.CourseView.{surroundings, state_of}
+
+-- a page has a frame of its own, no other, and doesn't move
+pub record IsPlain (g : Page) : Type 0 where
+  pub own : g.shared ≡ false
+  pub single : g.replicas ≡ []
+  pub rests : g.move ≡ None
+
+-- a processor's node is the one that was told, with its frames
+pub record StandsAt (around : Surroundings) (p : ℕ) (place : Place) : Type 0 where
+  pub node : place.node.0 ≡ node_of_processor around p
+  pub is_node : place.node.0 < length around.nodes
+  pub first : place.first ≡ place.node.0 * around.frames
+  pub past : place.past ≡ place.first + around.frames
+
+abbrev pub AllStand : Surroundings → ℕ → List Place → Type 0
+AllStand around p [] = Unit {0}
+AllStand around p (place ∷ places) = StandsAt around p place × AllStand around (suc p) places
+
+-- there is one of each for each of what it is kept for, and not too many
+pub record IsSized (c : Course) : Type 0 where
+  pub some_vcpus : 0 < length c.vcpus.items
+  pub few_vcpus : length c.vcpus.items ≤ 4
+  pub transfers : length c.devs.state.page.transfers ≡ length c.vcpus.items
+  pub seconds : length c.seconds.items ≡ length c.vcpus.items
+  pub few_processors : length c.places.items ≤ 16
+  pub due : length c.due.items ≡ length c.places.items
+  pub few_pages : length c.pmap.pages ≤ 2048
+
+-- the virtual processors show what the devices keep; each that is loaded is there; and until the guest ends it is coherent, one
+-- of its virtual processors runs, and each page is plain, with its counters
+pub record IsGoing (c : Course) : Type 0 where
+  pub coherent : Coherent (state_of c)
+  pub runs : all_halted c.vcpus.items ≡ false
+  pub pages : c.devs.state.pages ≡ length c.pmap.pages
+  pub plain : (q : ℕ) → q < length c.pmap.pages → IsPlain (page_at c.pmap.pages q)
+  pub counted : AreCounters (length c.pmap.pages) (length c.around.site.shape.cells) c.counters
+
+pub record IsSound (c : Course) : Type 0 where
+  pub sized : IsSized c
+  pub agree : Agree c.devs.state c.vcpus.items
+  pub loaded : (p v : ℕ) → (processor (state_of c) p).loaded ≡ Some v → v < length c.vcpus.items
+  pub places : AllStand (surroundings c.around) 0 c.places.items
+  pub going : c.ended ≡ None → IsGoing c
+
+-- an access of a processor to a page can be noted: both are there, with their counters
+pub record MayNote (c : Course) (p q : ℕ) : Type 0 where
+  pub is_processor : p < length c.places.items
+  pub dues : length c.due.items ≡ length c.places.items
+  pub is_page : q < length c.pmap.pages
+  pub counted : AreCounters (length c.pmap.pages) (length c.around.site.shape.cells) c.counters
+  pub places : AllStand (surroundings c.around) 0 c.places.items
+  pub frames : 0 < c.around.site.shape.frames
+
+-- what holds of the page of a data access
+abbrev pub IsDataOf : (ℕ → Type 0) → DataAccess → Type 0
+IsDataOf P access.NoData = Unit {0}
+IsDataOf P (access.Load page frame) = P page.0
+IsDataOf P (access.Store page frame) = P page.0
