@@ -1,7 +1,7 @@
 -- The lists of the guests, one after the other.
 use Rattle.std.proofs.Common.{◌≡◌, ℕ, suc, ◌+◌, List, [], ◌∷◌, ◌++◌, length, subst, ap, ◌∙◌, refl, arith}
 use Rattle.std.proofs.lemmas.List.{length_push}
-use Rattle.machine_desc.specs.declared.plan.InputEntry.{InputEntry}
+use Rattle.base_words.specs.declared.input.InputEntry.{InputEntry}
 use Rattle.machine_desc.specs.declared.sheet.InputTable.{InputTable}
 use Rattle.machine_desc.specs.Input.{IsInputOf, AreInputsFrom, AreInputs}
 

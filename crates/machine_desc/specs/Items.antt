@@ -11,7 +11,7 @@ use Rattle.machine_desc.specs.declared.fault.DescFault.TheVariants as fault
 use Rattle.machine_desc.specs.declared.machine.GuestSpec.{GuestSpec}
 use Rattle.machine_desc.specs.declared.place.Place.TheVariants as places
 use Rattle.machine_desc.specs.declared.plan.Item.{Item}
-use Rattle.machine_desc.specs.declared.plan.MoveKind.{MoveKind}
+use Rattle.base_words.specs.declared.moves.MoveKind.{MoveKind}
 use Rattle.machine_desc.specs.declared.plan.Item.TheVariants as items
 use Rattle.machine_desc.specs.declared.sheet.Sheet.{Sheet}
 use Rattle.machine_desc.specs.declared.sheet.Work.{Work}

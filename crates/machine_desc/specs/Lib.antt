@@ -16,3 +16,6 @@ pub mod Items
 pub mod Named
 pub mod Input
 pub mod Reading
+pub mod Described
+pub mod Bounds
+pub mod Accepted

@@ -43,13 +43,14 @@ cell_named count i cells nodes =
 unfoldable pub cells_named : ℕ → List CellTable → Read (Unit {0})
 cells_named count cells = all (λ i cell. cell_named count i (take i cells) cell.nodes) 0 cells
 
+-- the cell that was found for a node, if any
+abbrev pub home_from : ℕ → Option ℕ → Read CellId
+home_from node None = Err (fault.Names (path places.Machine (codes "nodes")) node)
+home_from node (Some cell) = Ok (record { 0 = cell })
+
 -- the cell of a node, which has to have one
 abbrev pub home : List CellTable → ℕ → Read CellId
 home cells node = home_from node (cell_with node cells)
-  where
-    home_from : ℕ → Option ℕ → Read CellId
-    home_from node None = Err (fault.Names (path places.Machine (codes "nodes")) node)
-    home_from node (Some cell) = Ok (record { 0 = cell })
 
 -- the cell of each node, from node 0 on
 unfoldable pub homes : ℕ → List CellTable → Read (List CellId)

@@ -2,7 +2,7 @@
 use Rattle.std.specs.Prelude.{ℕ, [], bytes_eq, codes, Ok}
 use Rattle.toml.specs.Data.{Members}
 use Rattle.machine_desc.specs.declared.machine.GuestSpec.{GuestSpec}
-use Rattle.machine_desc.specs.declared.machine.Policy.{Policy}
+use Rattle.base_words.specs.declared.moves.Policy.{Policy}
 use Rattle.machine_desc.specs.declared.place.Place.TheVariants as places
 use Rattle.machine_desc.specs.declared.sheet.MachineTable.{MachineTable}
 use Rattle.machine_desc.specs.declared.sheet.CellTable.{CellTable}

@@ -29,12 +29,12 @@ cell_named key [] = nothing
 cell_named key (c ∷ cells) = if bytes_eq key c.0 then c.1 else cell_named key cells
 
 -- the number of a cell
-abbrev number_of : Cell → ℕ
+abbrev pub number_of : Cell → ℕ
 number_of (a_number n) = n
 number_of _ = 0
 
 -- its text, if it has one
-abbrev text_of : Cell → Option (List ℕ)
+abbrev pub text_of : Cell → Option (List ℕ)
 text_of (a_text s) = Some s
 text_of _ = None
 
@@ -44,22 +44,22 @@ bytes_of (a_text s) = s
 bytes_of _ = []
 
 -- its node, if it has one
-abbrev node_of : Cell → Option NodeId
+abbrev pub node_of : Cell → Option NodeId
 node_of (a_number n) = Some (record { 0 = n })
 node_of _ = None
 
 -- its nodes
-abbrev list_of : Cell → List NodeId
+abbrev pub list_of : Cell → List NodeId
 list_of (a_list ns) = ns
 list_of _ = []
 
 -- its table
-abbrev members_of : Cell → Members
+abbrev pub members_of : Cell → Members
 members_of (a_table ms) = ms
 members_of _ = no_members
 
 -- its tables
-abbrev tables_of : Cell → List Members
+abbrev pub tables_of : Cell → List Members
 tables_of (some_tables ts) = ts
 tables_of _ = []
 

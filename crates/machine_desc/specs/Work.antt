@@ -1,8 +1,8 @@
 -- What a work table says, by its act, or its first fault: `act` is read first, then `kind` of a move.
 use Rattle.std.specs.Prelude.{ℕ, List, [], ◌∷◌, bytes_eq, if◌then◌else◌, codes, Ok}
 use Rattle.toml.specs.Data.{Members}
-use Rattle.machine_desc.specs.declared.plan.MoveKind.{MoveKind}
-use Rattle.machine_desc.specs.declared.plan.MoveKind.TheVariants.{Migrate, Replicate, Collapse}
+use Rattle.base_words.specs.declared.moves.MoveKind.{MoveKind}
+use Rattle.base_words.specs.declared.moves.MoveKind.TheVariants.{Migrate, Replicate, Collapse}
 use Rattle.machine_desc.specs.declared.place.Place.TheVariants as places
 use Rattle.machine_desc.specs.declared.sheet.Act.{Act}
 use Rattle.machine_desc.specs.declared.sheet.Act.TheVariants as acts

@@ -3,8 +3,7 @@ ghost use Rattle.std.specs.Prelude.{◌≡◌, IfOk};
 ghost use Rattle.machine_desc.specs.Input.{entries_for, IsInputOf, AreInputs};
 
 use crate::sheet::InputTable;
-use crate::{InputEntry, InputList, InputLists};
-use base_words::Sequence;
+use base_words::{InputEntry, InputList, InputLists, Sequence};
 use std::alloc::{AllocError, Global};
 
 /// The entries of a guest, in the order of the file.

@@ -7,8 +7,8 @@ ghost use Rattle.machine_desc.specs.Items.{work_key, on_processor, for_guest, ta
 
 use crate::names::there;
 use crate::sheet::{Sheet, Work};
-use crate::{DescFault, GuestSpec, Item, ItemList, Key, MoveKind, Place};
-use base_words::{CellId, GuestId, NodeId, Ppn, ProcId, Sequence, VcpuId};
+use crate::{DescFault, GuestSpec, Item, ItemList, Key, Place};
+use base_words::{CellId, GuestId, MoveKind, NodeId, Ppn, ProcId, Sequence, VcpuId};
 use std::alloc::Global;
 
 /// A piece of work by its number, and the tables in which its names are looked up.

@@ -6,6 +6,7 @@ mod fault;
 mod input;
 mod items;
 mod key;
+mod law;
 mod machine;
 mod named;
 mod names;
@@ -22,9 +23,10 @@ mod work;
 
 pub use fault::{Amount, DescFault};
 use key::Key;
-pub use machine::{GuestSpec, Machine, Policy, SpecList};
+pub use law::accepted;
+pub use machine::{GuestSpec, Machine, SpecList};
 use place::Place;
-pub use plan::{InputEntry, InputList, InputLists, Item, ItemList, MoveKind, Plan};
+pub use plan::{Item, ItemList, Plan};
 pub use reader::read;
 use section::Section;
 

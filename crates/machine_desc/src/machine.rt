@@ -1,5 +1,5 @@
 //! The machine that a description asks for, with the guests on it.
-use base_words::{LendList, Name, NodeId, NodeList, Sequence, Shape};
+use base_words::{LendList, Name, NodeId, NodeList, Policy, Sequence, Shape};
 
 /// The modelled machine, the guests on it, and when their pages move.
 #[derive(Debug, Drop)]
@@ -29,10 +29,3 @@ pub struct GuestSpec {
 
 /// The guests, by their numbers.
 pub type SpecList = Sequence<GuestSpec>;
-
-/// After how many misses a page is migrated or replicated. 0 is never.
-#[derive(Clone, Copy, Debug, PartialEq, Eq)]
-pub struct Policy {
-    pub migrate: u32,
-    pub replicate: u32,
-}

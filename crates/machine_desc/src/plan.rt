@@ -1,16 +1,5 @@
 //! What the processors are to do, and what is typed at each guest's console.
-use base_words::{Bytes, CellId, GuestId, NodeId, Ppn, ProcId, Sequence, VcpuId};
-
-/// A change of what backs a page.
-#[derive(Clone, Copy, Debug, PartialEq, Eq)]
-pub enum MoveKind {
-    Migrate,
-    Replicate,
-    Collapse,
-    Break,
-    TakeShared,
-    GiveShared,
-}
+use base_words::{CellId, GuestId, InputLists, MoveKind, NodeId, Ppn, ProcId, Sequence, VcpuId};
 
 /// One piece of work of one processor.
 #[derive(Clone, Copy, Debug, PartialEq, Eq)]
@@ -36,19 +25,6 @@ pub enum Item {
 
 /// Work, in the order of the description.
 pub type ItemList = Sequence<Item>;
-
-/// Bytes that come to a guest's console once its first vcpu has done so many own steps.
-#[derive(Debug, Drop)]
-pub struct InputEntry {
-    pub at: u64,
-    pub text: Bytes,
-}
-
-/// The input of one guest, in the order in which it comes.
-pub type InputList = Sequence<InputEntry>;
-
-/// The input of each guest, by its number.
-pub type InputLists = Sequence<InputList>;
 
 /// The work of the processors, and the input of each guest.
 #[derive(Debug, Drop)]

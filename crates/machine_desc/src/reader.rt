@@ -4,6 +4,8 @@ ghost use Rattle.toml.specs.Parse.{parse_document};
 ghost use Rattle.toml.specs.View.{table_view};
 ghost use Rattle.machine_desc.specs.Reads.{Gives};
 ghost use Rattle.machine_desc.specs.Shapes.{IsSized};
+ghost use Rattle.machine_desc.specs.Accepted.{IsDescribed};
+ghost use Rattle.machine_desc.specs.Described.{described_seen, description_of};
 ghost use Rattle.machine_desc.specs.Reading.{described, read_of, IsMachine, IsPlan, HasFault, Reads};
 
 use crate::input::lists_in;
@@ -68,14 +70,24 @@ fn machine_and_plan(
     Ok((machine, Plan { items, input }))
 }
 
-/// Reads a description. The answer is its machine and its plan, or its first fault: first what the
-/// grammar of TOML refuses, then the shape of each table, then what the tables name, last the
-/// sum of the steps. `Memory` says nothing of the description.
-pub fn read(alloc: Global, bytes: &[u8]) -> Result<(Machine, Plan), DescFault>
+/// What the bytes say: first as a document, then table by table, then with all that they name looked up.
+fn tables_read(alloc: Global, bytes: &[u8]) -> Result<(Machine, Plan), DescFault>
     ensures { Reads bytes.now result }
 {
     let document = document_in(alloc, bytes)?;
     let sheet = sheet_in(alloc, &document)?;
     let named = named_in(alloc, &sheet)?;
     Ok(machine_and_plan(alloc, sheet, named)?)
+}
+
+/// Reads a description. The answer is its machine and its plan, which are within all bounds, or its first fault: first what the
+/// grammar of TOML refuses, then the shape of each table, then what the tables name, last the
+/// sum of the steps. `Memory` says nothing of the description.
+#[tactic(auto, using(crate::proofs::Readings::reading_gives))]
+pub fn read(alloc: Global, bytes: &[u8]) -> Result<(Machine, Plan), DescFault>
+    ensures reads { Reads bytes.now result }
+    ensures gives { Gives (λ both. described_seen both.0 both.1) result (description_of bytes.now) }
+    ensures accepted { IfOk result (λ both. IsDescribed both.0 both.1) }
+{
+    tables_read(alloc, bytes)
 }

@@ -1,7 +1,8 @@
 //! What the tables of a description say, before the names in them are looked up.
-use crate::{ItemList, MoveKind, Policy, SpecList};
+use crate::{ItemList, SpecList};
 use base_words::{
-    Bytes, CellId, CellList, GuestId, NodeId, NodeList, Ppn, ProcId, Sequence, VcpuId,
+    Bytes, CellId, CellList, GuestId, MoveKind, NodeId, NodeList, Policy, Ppn, ProcId, Sequence,
+    VcpuId,
 };
 
 /// The machine's nodes, the frames of each, the node of each processor, and the size of the index of blocks.

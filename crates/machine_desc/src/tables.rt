@@ -6,8 +6,8 @@ ghost use Rattle.machine_desc.specs.Reads.{Gives, each};
 ghost use Rattle.machine_desc.specs.Sheet.{machine_at, cell_table_at, guest_at, policy_at, input_at};
 
 use crate::sheet::{CellTable, InputTable, MachineTable};
-use crate::{DescFault, GuestSpec, Place, Policy, Section, SpecList};
-use base_words::{GuestId, Name, NodeId, Sequence};
+use crate::{DescFault, GuestSpec, Place, Section, SpecList};
+use base_words::{GuestId, Name, NodeId, Policy, Sequence};
 use std::alloc::Global;
 use toml::Table;
 

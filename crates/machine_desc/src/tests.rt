@@ -1,5 +1,5 @@
 use super::*;
-use base_words::{CellId, GuestId, Name, NodeId, Ppn, ProcId, VcpuId};
+use base_words::{CellId, GuestId, InputList, MoveKind, Name, NodeId, Policy, Ppn, ProcId, VcpuId};
 use std::alloc::{AllocError, Global};
 use std::test::Fail;
 

@@ -8,7 +8,8 @@ ghost use Rattle.machine_desc.specs.Work.{act_word, kind_word};
 
 use crate::sheet::Act;
 use crate::value::word_in;
-use crate::{Amount, DescFault, MoveKind, Section};
+use crate::{Amount, DescFault, Section};
+use base_words::MoveKind;
 
 #[tactic(auto, unfolding(crate::specs::Cells::cell_at))]
 impl Section<'_> {

@@ -6,8 +6,8 @@ ghost use Rattle.machine_desc.specs.Reads.{Gives, each};
 ghost use Rattle.machine_desc.specs.Work.{run_at, move_to_at, collapse_at, move_at, fail_at, work_at};
 
 use crate::sheet::{Act, Work};
-use crate::{DescFault, MoveKind, Place, Section};
-use base_words::{CellId, GuestId, NodeId, Ppn, ProcId, Sequence, VcpuId};
+use crate::{DescFault, Place, Section};
+use base_words::{CellId, GuestId, MoveKind, NodeId, Ppn, ProcId, Sequence, VcpuId};
 use std::alloc::Global;
 use toml::Table;
 

@@ -1,0 +1,13 @@
+pub mod KeyLemmas
+pub mod Digits
+pub mod FormLemmas
+pub mod StageLemmas
+pub mod StageChains
+pub mod WholeCall
+pub mod NeverReads
+pub mod GuestLemmas
+pub mod DiskLemmas
+pub mod RawLemmas
+pub mod ReadyLemmas
+pub mod NoMemory
+pub mod KnownFiles

@@ -1,0 +1,215 @@
+-- No refusal is want of memory.
+use Rattle.std.proofs.Common.{◌≡◌, ◌≢◌, ℕ, suc, ◌+◌, ◌-◌, ◌*◌, ◌%◌, ◌==◌, List, [], ◌∷◌, length, nat_le, Bool, true, false, if◌then◌else◌, Option, Some, None, Result, Ok, Err, refl, subst}
+use Rattle.std.specs.Prelude.{option_map, position}
+use Rattle.private_machine.specs.PrivateRun.{Image}
+use Rattle.elf_image.specs.declared.fault.ImageFault.{ImageFault}
+use Rattle.elf_image.specs.declared.fault.ImageFault.TheVariants as image
+use Rattle.elf_image.specs.declared.segment.ProgramHeader.{ProgramHeader}
+use Rattle.elf_image.specs.Fields.{elf_header, program_headers}
+use Rattle.elf_image.specs.FirstFault.{first_of, needs, short, magic, class, order, version, kind, processor, table, interp, segment, place, overlap_from, overlap, entry, first_fault}
+use Rattle.elf_image.specs.Loading.{raw_fault}
+use Rattle.elf_image.specs.Segments.{is_cut, is_outside, shares_byte}
+use Rattle.machine_desc.specs.declared.fault.DescFault.{DescFault}
+use Rattle.machine_desc.specs.declared.machine.GuestSpec.{GuestSpec}
+use Rattle.machine_desc.specs.Described.{Described, description_of}
+use Rattle.machine_desc.proofs.NameFaults.{description_of-told}
+use Rattle.admission.specs.declared.faults.Fault.{Fault}
+use Rattle.admission.specs.declared.faults.Fault.TheVariants.{Long, Description, Admission}
+use Rattle.admission.specs.declared.faults.UnbuiltKey.{UnbuiltKey}
+use Rattle.admission.specs.declared.faults.UnbuiltKey.TheVariants as key
+use Rattle.admission.specs.Words.{Form, Raw, Machine, Private, form_of}
+use Rattle.admission.specs.Chain.{Files, ◌>>=◌, known_form, fitting, content, of_description, longest_description, longest_image, longest_disk}
+use Rattle.admission.specs.Starts.{Start, unless, raw_image, elf_image, guest_image, of_guest, image_at, disk_at, start_at, starts_from}
+use Rattle.admission.specs.Unbuilt.{unbuilt, refused_key}
+use Rattle.admission.specs.Jobs.{fits_from, checks, checked, described_job, raw_job, job_by, job_of}
+use Rattle.admission.specs.Tells.{Tells}
+
+-- ---- images
+
+abbrev TellsFound : Option ImageFault → Type 0
+TellsFound None = Unit {0}
+TellsFound (Some fault) = fault ≢ image.Memory
+
+abbrev AllTell : List (Option ImageFault) → Type 0
+AllTell [] = Unit {0}
+AllTell (found ∷ others) = TellsFound found × AllTell others
+
+first_of-tells : (rows : List (Option ImageFault)) → AllTell rows → TellsFound (first_of rows)
+first_of-tells [] all = tt
+first_of-tells (None ∷ rows) all = first_of-tells rows all.1
+first_of-tells (Some found ∷ rows) all = all.0
+
+needs-tells : (passes : Bool) (fault : ImageFault) → fault ≢ image.Memory → TellsFound (needs passes fault)
+needs-tells true fault other = tt
+needs-tells false fault other = other
+
+numbered-tells : (fault : ℕ → ImageFault) → ((n : ℕ) → fault n ≢ image.Memory) → (found : Option ℕ) → TellsFound (option_map fault found)
+numbered-tells fault other None = tt
+numbered-tells fault other (Some n) = other n
+
+overlap-tells : (n : ℕ) (headers : List ProgramHeader) → TellsFound (overlap_from n headers)
+overlap-tells n [] = tt
+overlap-tells n (header ∷ later) =
+    first_of-tells (option_map (λ k. image.Overlap n (n + 1 + k)) (position (shares_byte header) later) ∷ overlap_from (n + 1) later ∷ [])
+    (numbered-tells (λ k. image.Overlap n (n + 1 + k)) (λ k is. cc) (position (shares_byte header) later), (overlap-tells (n + 1) later, tt))
+
+pub first_fault-tells : (file : List ℕ) (pages : ℕ) → TellsFound (first_fault file pages)
+unfolding first_fault
+first_fault-tells file pages =
+    let h = elf_header file in
+    let hs = program_headers file in
+    first_of-tells (
+    short file
+    ∷ magic h
+    ∷ class h
+    ∷ order h
+    ∷ version h
+    ∷ kind h
+    ∷ processor h
+    ∷ table h (length file)
+    ∷ interp hs
+    ∷ segment hs (length file)
+    ∷ place hs pages
+    ∷ overlap hs
+    ∷ entry h pages
+    ∷ []) (
+      needs-tells _ image.Short (λ is. cc),
+      (
+        needs-tells _ image.Magic (λ is. cc),
+        (
+          needs-tells _ image.Class (λ is. cc),
+          (
+            needs-tells _ image.Order (λ is. cc),
+            (
+              needs-tells _ image.Version (λ is. cc),
+              (
+                needs-tells _ image.Kind (λ is. cc),
+                (
+                  needs-tells _ image.Processor (λ is. cc),
+                  (
+                    needs-tells _ image.Headers (λ is. cc),
+                    (
+                      needs-tells _ image.Interp (λ is. cc),
+                      (
+                        numbered-tells (λ n. image.Segment n) (λ n is. cc) (position (is_cut (length file)) (program_headers file)),
+                        (
+                          numbered-tells (λ n. image.Place n) (λ n is. cc) (position (is_outside pages) (program_headers file)),
+                          (
+                            overlap-tells 0 (program_headers file),
+                            (needs-tells _ image.Entry (λ is. cc), tt),
+                          ),
+                        ),
+                      ),
+                    ),
+                  ),
+                ),
+              ),
+            ),
+          ),
+        ),
+      ),
+    )
+
+raw_fault-tells : (file : List ℕ) (pages : ℕ) → TellsFound (raw_fault file pages)
+raw_fault-tells file pages = first_of-tells (needs (length file % 4 == 0) image.Short ∷ needs (nat_le (length file) (4096 * pages)) (image.Place 0) ∷ []) (needs-tells _ image.Short (λ is. cc), (needs-tells _ (image.Place 0) (λ is. cc), tt))
+
+-- ---- stages
+
+-- no refusal of a stage is want of memory
+abbrev AlwaysTells : {A : Type 0} → Result A Fault → Type 0
+AlwaysTells (Ok x) = Unit {0}
+AlwaysTells (Err fault) = Tells fault
+
+then-tells : {A B : Type 0} (r : Result A Fault) (next : A → Result B Fault) → AlwaysTells r → ((x : A) → AlwaysTells (next x)) → AlwaysTells (r >>= next)
+then-tells (Ok x) next first last = last x
+then-tells (Err fault) next first last = first
+
+content-tells : (files : Files) (name : List ℕ) (most : ℕ) → AlwaysTells (content files name most)
+content-tells files name most = by (files name)
+  where
+    by : (found : Option (List ℕ)) → AlwaysTells (fitting name most found)
+    by None = tt
+    by (Some bytes) = elim (nat_le (length bytes) most) as (λ b. AlwaysTells (let r : Result (List ℕ) Fault = if b then Ok bytes else Err (Long name) in r)) [ true ↦ tt | false ↦ tt ]
+
+unless-tells : (guest : ℕ) (found : Option ImageFault) (image : Image) → TellsFound found → AlwaysTells (of_guest guest (unless found image))
+unless-tells guest None image tells = tt
+unless-tells guest (Some fault) image tells = tells
+
+guest_image-tells : (guest : ℕ) (spec : GuestSpec) (bytes : List ℕ) → AlwaysTells (of_guest guest (guest_image spec bytes))
+guest_image-tells guest spec bytes =
+    elim spec.raw as (λ raw. AlwaysTells (of_guest guest (let r : Result Image ImageFault = if raw then raw_image bytes spec.pages else elf_image bytes spec.pages in r))) [
+      | true ↦ unless-tells guest (raw_fault bytes spec.pages) _ (raw_fault-tells bytes spec.pages)
+      | false ↦ unless-tells guest (first_fault bytes spec.pages) _ (first_fault-tells bytes spec.pages)
+    ]
+
+disk_at-tells : (files : Files) (disk : Option (List ℕ)) → AlwaysTells (disk_at files disk)
+disk_at-tells files None = tt
+disk_at-tells files (Some name) = then-tells (content files name longest_disk) _ (content-tells files name longest_disk) (λ bytes. tt)
+
+start_at-tells : (files : Files) (guest : ℕ) (spec : GuestSpec) → AlwaysTells (start_at files guest spec)
+start_at-tells files guest spec =
+    then-tells (image_at files guest spec) _ (then-tells (content files spec.image longest_image) _ (content-tells files spec.image longest_image) (guest_image-tells guest spec)) λ image.
+    then-tells (disk_at files spec.disk) _ (disk_at-tells files spec.disk) (λ disk. tt)
+
+starts_from-tells : (files : Files) (guest : ℕ) (specs : List GuestSpec) → AlwaysTells (starts_from files guest specs)
+unfolding starts_from
+starts_from-tells files guest [] = tt
+starts_from-tells files guest (spec ∷ specs) =
+    then-tells (start_at files guest spec) _ (start_at-tells files guest spec) λ start.
+    then-tells (starts_from files (suc guest) specs) _ (starts_from-tells files (suc guest) specs) (λ starts. tt)
+
+refused_key-tells : (alone : Bool) (k : Option UnbuiltKey) → AlwaysTells (refused_key alone k)
+refused_key-tells alone None = tt
+refused_key-tells true (Some (key.Disk guest)) = tt
+refused_key-tells false (Some (key.Disk guest)) = tt
+refused_key-tells true (Some key.Input) = tt
+refused_key-tells false (Some key.Input) = tt
+refused_key-tells alone (Some key.Nodes) = tt
+refused_key-tells alone (Some key.Processors) = tt
+refused_key-tells alone (Some key.Cache) = tt
+refused_key-tells alone (Some key.Guests) = tt
+refused_key-tells alone (Some (key.Vcpus guest)) = tt
+refused_key-tells alone (Some key.Migrate) = tt
+refused_key-tells alone (Some key.Replicate) = tt
+refused_key-tells alone (Some (key.Act item)) = tt
+
+fits_from-tells : (has guest : ℕ) (specs : List GuestSpec) → AlwaysTells (fits_from has guest specs)
+fits_from-tells has guest [] = tt
+fits_from-tells has guest (spec ∷ specs) =
+    elim (nat_le spec.pages has) as (λ b. AlwaysTells (let r : Result (Unit {0}) Fault = if b then fits_from (has - spec.pages) (suc guest) specs else Err (Admission (record { 0 = guest }) spec.pages has) in r)) [
+      | true ↦ fits_from-tells (has - spec.pages) (suc guest) specs
+      | false ↦ tt
+    ]
+
+checked-tells : (alone : Bool) (d : Described) (starts : List Start) → AlwaysTells (checked alone d starts)
+checked-tells alone d starts =
+    then-tells (checks alone d) _
+    (then-tells (refused_key alone (unbuilt d)) _ (refused_key-tells alone (unbuilt d)) (λ _. fits_from-tells d.frames 0 d.guests))
+    (λ _. tt)
+
+of_description-tells : (r : Result Described DescFault) → ((fault : DescFault) → r ≡ Err fault → Tells (Description fault)) → AlwaysTells (of_description r)
+of_description-tells (Ok d) told = tt
+of_description-tells (Err fault) told = told fault refl
+
+described_job-tells : (alone : Bool) (files : Files) (name : List ℕ) → AlwaysTells (described_job alone files name)
+described_job-tells alone files name =
+    then-tells (content files name longest_description) _ (content-tells files name longest_description) λ bytes.
+    then-tells (of_description (description_of bytes)) _ (of_description-tells (description_of bytes) (description_of-told bytes)) λ d.
+    then-tells (starts_from files 0 d.guests) _ (starts_from-tells files 0 d.guests) (checked-tells alone d)
+
+raw_job-tells : (files : Files) (name : List ℕ) (steps : ℕ) → AlwaysTells (raw_job files name steps)
+raw_job-tells files name steps =
+    then-tells (content files name longest_image) _ (content-tells files name longest_image) λ bytes.
+    then-tells (of_guest 0 (raw_image bytes 16)) _ (unless-tells 0 (raw_fault bytes 16) _ (raw_fault-tells bytes 16)) (λ image. tt)
+
+job_by-tells : (files : Files) (form : Form) → AlwaysTells (job_by files form)
+job_by-tells files (Raw file steps) = raw_job-tells files file steps
+job_by-tells files (Machine file) = described_job-tells false files file
+job_by-tells files (Private file) = described_job-tells true files file
+
+known_form-tells : (form : Option Form) → AlwaysTells (known_form form)
+known_form-tells None = tt
+known_form-tells (Some form) = tt
+
+pub job_of-told : (words : List (List ℕ)) (files : Files) (fault : Fault) → job_of words files ≡ Err fault → Tells fault
+job_of-told words files fault is = subst AlwaysTells is (then-tells (known_form (form_of words)) _ (known_form-tells (form_of words)) (job_by-tells files))

@@ -1,0 +1,86 @@
+-- What is to be done, and why it is refused: all stages in order.
+use Rattle.std.specs.Prelude.{ℕ, suc, ◌-◌, nat_le, List, [], ◌∷◌, Bool, true, false, if◌then◌else◌, codes, None, Result, Ok, Err}
+use Rattle.private_machine.specs.PrivateRun.{Image}
+use Rattle.machine_desc.specs.declared.machine.GuestSpec.{GuestSpec}
+use Rattle.machine_desc.specs.declared.plan.Item.{Item}
+use Rattle.machine_desc.specs.declared.plan.Item.TheVariants.{Run}
+use Rattle.machine_desc.specs.Described.{Described, description_of}
+use Rattle.admission.specs.declared.faults.Fault.{Fault}
+use Rattle.admission.specs.declared.faults.Fault.TheVariants.{Admission}
+use Rattle.admission.specs.Words.{Form, Raw, Machine, Private, form_of}
+use Rattle.admission.specs.Chain.{Files, ◌>>=◌, known_form, content, of_description, longest_description, longest_image}
+use Rattle.admission.specs.Starts.{Start, raw_image, of_guest, starts_from}
+use Rattle.admission.specs.Unbuilt.{unbuilt, refused_key}
+
+-- what is to be done
+pub data Job : Type 0 where
+  -- what a description says, under the monitor, from these images and disks; with sums or without
+  Monitored : Described → List Start → Bool → Job
+  -- the same, each guest alone on its private machine
+  Alone : Described → List Start → Job
+
+-- whether the guests fit into so many frames, each in what those before it left
+abbrev pub fits_from : ℕ → ℕ → List GuestSpec → Result (Unit {0}) Fault
+fits_from has guest [] = Ok tt
+fits_from has guest (spec ∷ specs) =
+    if nat_le spec.pages has then fits_from (has - spec.pages) (suc guest) specs else Err (Admission (record { 0 = guest }) spec.pages has)
+
+-- first all that is asked for has to be built, then the guests have to fit
+abbrev pub checks : Bool → Described → Result (Unit {0}) Fault
+checks alone d = refused_key alone (unbuilt d) >>= λ _. fits_from d.frames 0 d.guests
+
+abbrev pub job_from : Bool → Described → List Start → Job
+job_from true d starts = Alone d starts
+job_from false d starts = Monitored d starts true
+
+abbrev pub checked : Bool → Described → List Start → Result Job Fault
+checked alone d starts = checks alone d >>= λ _. Ok (job_from alone d starts)
+
+-- the guests' files, and then the checks
+abbrev pub guests_of : Bool → Files → Described → Result Job Fault
+guests_of alone files d = starts_from files 0 d.guests >>= checked alone d
+
+-- the description's reading, its faults, and then its guests
+abbrev pub described_job : Bool → Files → List ℕ → Result Job Fault
+described_job alone files name =
+    content files name longest_description >>= λ bytes. of_description (description_of bytes) >>= guests_of alone files
+
+-- a raw guest has 16 pages and one virtual processor, on one node of 16 frames with one processor; its file's name isn't kept
+abbrev pub raw_guest : GuestSpec
+raw_guest = record { image = codes "raw"; raw = true; pages = 16; vcpus = 1; node = record { 0 = 0 }; disk = None }
+
+abbrev pub raw_items : ℕ → List Item
+raw_items steps = Run (record { 0 = 0 }) (record { 0 = 0 }) (record { 0 = 0 }) steps ∷ []
+
+abbrev pub raw_described : ℕ → Described
+raw_described steps = record {
+  nodes = 1;
+  frames = 16;
+  cells = record { 0 = 0 } ∷ [];
+  processors = record { 0 = 0 } ∷ [];
+  lends = 0 ∷ [];
+  cache = 0;
+  guests = raw_guest ∷ [];
+  policy = record { migrate = 0; replicate = 0 };
+  items = raw_items steps;
+  input = [] ∷ [];
+}
+
+abbrev pub raw_from : ℕ → Image → Job
+raw_from steps image = Monitored (raw_described steps) (record { image = image; disk = [] } ∷ []) false
+
+abbrev pub raw_checked : ℕ → List ℕ → Result Job Fault
+raw_checked steps bytes = of_guest 0 (raw_image bytes 16) >>= λ image. Ok (raw_from steps image)
+
+-- the raw file's reading, and then its image's faults
+abbrev pub raw_job : Files → List ℕ → ℕ → Result Job Fault
+raw_job files name steps = content files name longest_image >>= raw_checked steps
+
+abbrev pub job_by : Files → Form → Result Job Fault
+job_by files (Raw file steps) = raw_job files file steps
+job_by files (Machine file) = described_job false files file
+job_by files (Private file) = described_job true files file
+
+-- what the words and the files ask for
+abbrev pub job_of : List (List ℕ) → Files → Result Job Fault
+job_of words files = known_form (form_of words) >>= job_by files

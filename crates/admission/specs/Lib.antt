@@ -1,0 +1,11 @@
+pub mod Numbers
+pub mod Words
+pub mod Chain
+pub mod Starts
+pub mod Unbuilt
+pub mod Jobs
+pub mod Stages
+pub mod Views
+pub mod Ready
+pub mod Tells
+pub mod Steady

@@ -1,0 +1,91 @@
+//! Why nothing is run.
+ghost use Rattle.std.specs.Prelude.{◌≡◌};
+ghost use Rattle.admission.specs.declared.faults.Refusal.TheVariants.{Memory};
+
+use base_words::{GuestId, Name};
+use elf_image::ImageFault;
+use machine_desc::DescFault;
+use std::alloc::{AllocError, AllocFailed};
+use thiserror::Error;
+
+/// What a description may ask for, and isn't built yet. The numbers are those of a guest and of a piece of work.
+#[derive(Clone, Copy, Debug, PartialEq, Eq)]
+pub enum UnbuiltKey {
+    /// More nodes than one.
+    Nodes,
+    /// More processors than one.
+    Processors,
+    /// An index of shared blocks.
+    Cache,
+    /// More guests than one.
+    Guests,
+    /// More virtual processors of a guest than one.
+    Vcpus(usize),
+    /// A guest's disk.
+    Disk(usize),
+    /// Migration by the policy.
+    Migrate,
+    /// Replication by the policy.
+    Replicate,
+    /// Work that is no run.
+    Act(usize),
+    /// Input, which no guest under the monitor takes yet.
+    Input,
+}
+
+/// Why a job is refused.
+#[derive(Debug, Drop, Error)]
+pub enum Fault {
+    /// The words are none of the forms.
+    #[error("the words are none of the forms")]
+    Words,
+    /// A file can't be read.
+    #[error("a file can't be read")]
+    Read(Name),
+    /// A file is longer than its limit.
+    #[error("a file is too long")]
+    Long(Name),
+    /// The description is refused.
+    #[error("the description is refused")]
+    Description(DescFault),
+    /// A guest's image is refused.
+    #[error("an image is refused")]
+    BadImage(GuestId, ImageFault),
+    /// The description asks for what isn't built.
+    #[error("the description asks for what isn't built")]
+    Unbuilt(UnbuiltKey),
+    /// A guest has more pages than there are frames left.
+    #[error("a guest has more pages than there are frames left")]
+    Admission {
+        guest: GuestId,
+        needs: u32,
+        has: u32,
+    },
+}
+
+/// Why nothing is run: a fault, or memory was wanting.
+#[derive(Debug, Drop, Error)]
+pub enum Refusal {
+    /// The job is refused.
+    #[error("the job is refused")]
+    Fault(Fault),
+    /// Memory was wanting.
+    #[error("out of memory")]
+    Memory,
+}
+
+impl From<AllocError> for Refusal {
+    ghost from_gives = { λ _ e. e ≡ Memory };
+
+    fn from(_error: AllocError) -> Refusal {
+        Refusal::Memory
+    }
+}
+
+impl<T: Drop> From<AllocFailed<T>> for Refusal {
+    ghost from_gives = { λ _ e. e ≡ Memory };
+
+    fn from(_error: AllocFailed<T>) -> Refusal {
+        Refusal::Memory
+    }
+}

@@ -1,0 +1,35 @@
+//! What the definitions say of words and of refusals.
+ghost use Rattle.std.specs.Prelude.{◌≡◌, ℕ, List, [], ◌∷◌, codes, Some, None, Err};
+ghost use Rattle.admission.specs.declared.faults.Fault.{Fault};
+ghost use Rattle.admission.specs.Chain.{Files};
+ghost use Rattle.admission.specs.Jobs.{job_of};
+ghost use Rattle.admission.specs.Steady.{IsSteady};
+ghost use Rattle.admission.specs.Tells.{Tells};
+ghost use Rattle.admission.specs.Words.{Form, Raw, Machine, Private, form_of};
+
+/// Which words are forms, by examples: what the command's parser takes besides the plain ones, and what it refuses.
+pub fn examples()
+    ensures plain { form_of (codes "--raw" ∷ codes "a" ∷ codes "--steps" ∷ codes "5" ∷ []) ≡ Some (Raw (codes "a") 5) }
+    ensures any_order { form_of (codes "--steps=5" ∷ codes "--raw" ∷ codes "a" ∷ []) ≡ Some (Raw (codes "a") 5) }
+    ensures empty_name { form_of (codes "--raw=" ∷ codes "--steps" ∷ codes "0000000000" ∷ []) ≡ Some (Raw [] 0) }
+    ensures last_dashes { form_of (codes "--machine" ∷ codes "m" ∷ codes "--" ∷ []) ≡ Some (Machine (codes "m")) }
+    ensures dash_name { form_of (codes "--private=-x" ∷ []) ≡ Some (Private (codes "-x")) }
+    ensures no_words { form_of [] ≡ None }
+    ensures half { form_of (codes "--steps" ∷ codes "5" ∷ []) ≡ None }
+    ensures twice { form_of (codes "--machine" ∷ codes "m" ∷ codes "--machine" ∷ codes "m" ∷ []) ≡ None }
+    ensures two_forms { form_of (codes "--machine" ∷ codes "m" ∷ codes "--private" ∷ codes "m" ∷ []) ≡ None }
+    ensures positional { form_of (codes "--machine" ∷ codes "m" ∷ codes "b" ∷ []) ≡ None }
+    ensures many_steps { form_of (codes "--raw" ∷ codes "a" ∷ codes "--steps" ∷ codes "16000001" ∷ []) ≡ None }
+    ensures no_seed { form_of (codes "--load" ∷ codes "7" ∷ []) ≡ None }
+    ensures help { form_of (codes "--help" ∷ []) ≡ None }
+{}
+
+/// No refusal is want of memory.
+pub fn told()
+    ensures { (words : List (List ℕ)) (files : Files) (fault : Fault) → job_of words files ≡ Err fault → Tells fault }
+{}
+
+/// What some files ask for stays where more are known, and so does a failed read, where its file isn't among them.
+pub fn steady()
+    ensures { (words : List (List ℕ)) → IsSteady (λ files. job_of words files) }
+{}

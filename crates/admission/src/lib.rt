@@ -1,0 +1,25 @@
+//! From the command line's words and the files to what is to be done, or the first refusal.
+#![tactic(auto)]
+
+mod description;
+mod disks;
+mod faults;
+mod guests;
+mod images;
+mod job;
+mod law;
+mod library;
+mod raw;
+mod setup;
+mod unbuilt;
+mod words;
+
+pub use disks::{DiskList, DiskNumbers};
+pub use faults::{Fault, Refusal, UnbuiltKey};
+pub use images::ImageList;
+pub use job::admit;
+pub use law::{examples, steady, told};
+pub use setup::{Job, Setup};
+
+#[cfg(test)]
+mod tests;

@@ -1,0 +1,524 @@
+//! Words and the forms that they are; descriptions, their files, and what comes of them.
+use crate::disks::disks_in;
+use crate::words::{Form, read_form};
+use crate::{Fault, Job, Refusal, UnbuiltKey, admit};
+use base_words::{Bytes, Name};
+use elf_image::ImageFault;
+use outside_io::{CallList, FileList, HeldFile, MemShelf, Shelf};
+use std::alloc::{AllocError, Global};
+use std::process::Abort;
+use std::test::Fail;
+
+/// The words as the system gives them.
+fn words_of(alloc: Global, words: &[&str]) -> Result<Vec<String>, AllocError> {
+    let mut all = Vec::new(alloc);
+    for word in words {
+        all.push(String::from_str(alloc, word)?)?;
+    }
+    Ok(all)
+}
+
+/// Words, and what they have to be.
+#[derive(Clone, Copy)]
+struct Row<'a> {
+    words: &'a [&'a str],
+    form: Option<Form<'a>>,
+}
+
+fn try_words<R: Abort>(rt: &R, alloc: Global, row: &Row) -> Result<(), AllocError> {
+    let words = words_of(alloc, row.words)?;
+    let form = match read_form(alloc, words.as_slice()) {
+        Ok(form) => Some(form),
+        Err(Refusal::Fault(_)) => None,
+        Err(Refusal::Memory) => return Err(AllocError),
+    };
+    let about = row.words;
+    assert!(rt; form == row.form, "{about:?}");
+    Ok(())
+}
+
+#[test]
+fn words_that_are_forms(rt: HostRuntime) -> Result<(), Fail> {
+    let raw = Form::Raw("a", 5);
+    let rows = [
+        Row {
+            words: &["--raw", "a", "--steps", "5"],
+            form: Some(raw),
+        },
+        Row {
+            words: &["--steps", "5", "--raw", "a"],
+            form: Some(raw),
+        },
+        Row {
+            words: &["--raw=a", "--steps=5"],
+            form: Some(raw),
+        },
+        Row {
+            words: &["--steps=5", "--raw", "a"],
+            form: Some(raw),
+        },
+        Row {
+            words: &["--raw", "a", "--steps", "0000000005"],
+            form: Some(raw),
+        },
+        Row {
+            words: &["--raw", "a", "--steps", "5", "--"],
+            form: Some(raw),
+        },
+        Row {
+            words: &["--raw", "a", "--steps", "0"],
+            form: Some(Form::Raw("a", 0)),
+        },
+        Row {
+            words: &["--raw", "a", "--steps", "16000000"],
+            form: Some(Form::Raw("a", 16_000_000)),
+        },
+        Row {
+            words: &["--raw", "", "--steps", "5"],
+            form: Some(Form::Raw("", 5)),
+        },
+        Row {
+            words: &["--raw=", "--steps", "5"],
+            form: Some(Form::Raw("", 5)),
+        },
+        Row {
+            words: &["--raw", "-", "--steps", "5"],
+            form: Some(Form::Raw("-", 5)),
+        },
+        Row {
+            words: &["--raw=-x", "--steps", "5"],
+            form: Some(Form::Raw("-x", 5)),
+        },
+        Row {
+            words: &["--raw=--steps", "--steps", "5"],
+            form: Some(Form::Raw("--steps", 5)),
+        },
+        Row {
+            words: &["--raw=a=b", "--steps", "5"],
+            form: Some(Form::Raw("a=b", 5)),
+        },
+        Row {
+            words: &["--machine", "m"],
+            form: Some(Form::Machine("m")),
+        },
+        Row {
+            words: &["--private=p"],
+            form: Some(Form::Private("p")),
+        },
+    ];
+    for row in &rows {
+        try_words(&rt, rt.alloc(), row)?;
+    }
+    Ok(())
+}
+
+#[test]
+fn words_that_are_none(rt: HostRuntime) -> Result<(), Fail> {
+    let rows: [&[&str]; 41] = [
+        &[],
+        &[""],
+        &["--"],
+        &["--", "--raw", "a", "--steps", "5"],
+        &["--raw", "a"],
+        &["--steps", "5"],
+        &["--raw", "--steps", "5"],
+        &["--raw", "a", "--steps"],
+        &["--raw", "a", "--steps", "--"],
+        &["--raw", "-x", "--steps", "5"],
+        &["--raw", "a", "--steps", "-5"],
+        &["--raw", "a", "--steps=-5"],
+        &["--raw", "a", "--steps", "+5"],
+        &["--raw", "a", "--steps", " 5"],
+        &["--raw", "a", "--steps", "5 "],
+        &["--raw", "a", "--steps", "5_0"],
+        &["--raw", "a", "--steps", "0x5"],
+        &["--raw", "a", "--steps", ""],
+        &["--raw", "a", "--steps="],
+        &["--raw", "a", "--steps", "16000001"],
+        &["--raw", "a", "--steps", "00000000005"],
+        &["--raw", "a", "--steps", "5", "--steps", "5"],
+        &["--raw", "a", "--raw", "a", "--steps", "5"],
+        &["--raw", "a", "--steps", "5", "b"],
+        &["b", "--raw", "a", "--steps", "5"],
+        &["--raw", "a", "--steps", "5", "--", "b"],
+        &["--raw", "a", "--steps", "5", "--machine", "m"],
+        &["--machine", "m", "--private", "m"],
+        &["--machine", "m", "--steps", "5"],
+        &["--make", "7"],
+        &["--load", "7"],
+        &["--make", "7", "--load", "7"],
+        &["--raw", "a", "--steps", "5", "--make", "7"],
+        &["--machine", "m", "--load", "7"],
+        &["--help"],
+        &["-h"],
+        &["--version"],
+        &["-raw", "a", "--steps", "5"],
+        &["--ra", "a", "--steps", "5"],
+        &["--RAW", "a", "--steps", "5"],
+        &["help"],
+    ];
+    for words in rows {
+        try_words(&rt, rt.alloc(), &Row { words, form: None })?;
+    }
+    Ok(())
+}
+
+/// One guest of 16 pages on one node of 16 frames, which runs for five steps.
+const P1: &str = "[machine]
+nodes = 1
+frames = 16
+processors = [0]
+[[guest]]
+image = \"a.raw\"
+form = \"raw\"
+pages = 16
+vcpus = 1
+node = 0
+[[work]]
+act = \"run\"
+processor = 0
+guest = 0
+vcpu = 0
+steps = 5
+";
+
+/// What came of words and files.
+#[derive(Clone, Copy, Debug, PartialEq, Eq)]
+enum Came {
+    /// So many guests under the monitor, and whether the report has sums.
+    Monitored(usize, bool),
+    /// So many guests alone, so many disks, and the blocks of the first disk.
+    Alone(usize, usize, usize),
+    Words,
+    Read,
+    Long,
+    Description,
+    Image(u8, ImageFault),
+    Unbuilt(UnbuiltKey),
+    Admission(u8, u32, u32),
+    Memory,
+}
+
+fn came_of(answer: Result<Job, Refusal>) -> Came {
+    match answer {
+        Ok(Job::Monitored { setup, sums }) => Came::Monitored(setup.images.len(), sums),
+        Ok(Job::Alone(setup)) => {
+            let blocks = match setup.disks.as_slice().first() {
+                Some(disk) => disk.len(),
+                None => 0,
+            };
+            Came::Alone(setup.images.len(), setup.disks.len(), blocks)
+        }
+        Err(Refusal::Memory) => Came::Memory,
+        Err(Refusal::Fault(fault)) => came_of_fault(fault),
+    }
+}
+
+fn came_of_fault(fault: Fault) -> Came {
+    match fault {
+        Fault::Words => Came::Words,
+        Fault::Read(_) => Came::Read,
+        Fault::Long(_) => Came::Long,
+        Fault::Description(_) => Came::Description,
+        Fault::BadImage(guest, fault) => Came::Image(guest.0, fault),
+        Fault::Unbuilt(key) => Came::Unbuilt(key),
+        Fault::Admission { guest, needs, has } => Came::Admission(guest.0, needs, has),
+    }
+}
+
+/// Words, a description, how long the image and the disk are, the reads that fail, and what has to come.
+#[derive(Clone, Copy)]
+struct Case<'a> {
+    option: &'a str,
+    changes: &'a [(&'a str, &'a str)],
+    image: usize,
+    disk: usize,
+    fails: &'a [u64],
+    came: Came,
+    /// How many reads are counted as faults.
+    faults: u64,
+}
+
+fn plain<'a>() -> Case<'a> {
+    Case {
+        option: "--machine",
+        changes: &[],
+        image: 20,
+        disk: 4096,
+        fails: &[],
+        came: Came::Monitored(1, true),
+        faults: 0,
+    }
+}
+
+fn held(alloc: Global, name: &str, bytes: Vec<u8>) -> Result<HeldFile, AllocError> {
+    Ok(HeldFile {
+        name: Name::copy_of(alloc, name)?,
+        bytes: Bytes::from_vec(bytes),
+    })
+}
+
+/// So many zeros.
+fn zeros(alloc: Global, count: usize) -> Result<Vec<u8>, AllocError> {
+    let mut bytes = Vec::new(alloc);
+    bytes.resize(count, 0u8)?;
+    Ok(bytes)
+}
+
+/// A shelf with a description, an image and a disk.
+fn shelf_of(alloc: Global, text: &str, case: &Case) -> Result<MemShelf, AllocError> {
+    let mut files = FileList::new(alloc);
+    files.push(held(alloc, "m", text.as_bytes().to_vec(alloc)?)?)?;
+    files.push(held(alloc, "a.raw", zeros(alloc, case.image)?)?)?;
+    files.push(held(alloc, "d.img", zeros(alloc, case.disk)?)?)?;
+    Ok(MemShelf::new(alloc, files, CallList::from_vec(case.fails.to_vec(alloc)?)))
+}
+
+fn try_case<R: Abort>(rt: &R, alloc: Global, case: &Case) -> Result<(), AllocError> {
+    let mut text = String::from_str(alloc, P1)?;
+    for (old, new) in case.changes {
+        text = text.replace(alloc, *old, *new)?;
+    }
+    let mut shelf = shelf_of(alloc, text.as_str(), case)?;
+    let words = words_of(alloc, &[case.option, "m"])?;
+    let came = came_of(admit(alloc, words.as_slice(), &mut shelf));
+    assert_eq!(rt; came, case.came, "{text}");
+    assert_eq!(rt; shelf.faults(), case.faults, "faults of {text}");
+    Ok(())
+}
+
+fn refused<'a>(changes: &'a [(&'a str, &'a str)], came: Came) -> Case<'a> {
+    Case {
+        changes,
+        came,
+        ..plain()
+    }
+}
+
+/// The stages in their order: each row fails at one, and at all that come later too.
+#[test]
+fn stages_in_order(rt: HostRuntime) -> Result<(), Fail> {
+    let rows = [
+        plain(),
+        Case {
+            option: "--raw",
+            came: Came::Words,
+            fails: &[1],
+            ..plain()
+        },
+        Case {
+            changes: &[("frames", "frmes")],
+            fails: &[1],
+            came: Came::Read,
+            faults: 1,
+            ..plain()
+        },
+        Case {
+            changes: &[("frames", "frmes")],
+            fails: &[2],
+            came: Came::Description,
+            ..plain()
+        },
+        Case {
+            changes: &[("nodes = 1", "nodes = 2")],
+            image: 6,
+            fails: &[2],
+            came: Came::Read,
+            faults: 1,
+            ..plain()
+        },
+        Case {
+            changes: &[
+                ("nodes = 1", "nodes = 2"),
+                ("vcpus", "disk = \"d.img\"\nvcpus"),
+            ],
+            image: 6,
+            fails: &[3],
+            came: Came::Image(0, ImageFault::Short),
+            ..plain()
+        },
+        Case {
+            changes: &[
+                ("nodes = 1", "nodes = 2"),
+                ("vcpus", "disk = \"d.img\"\nvcpus"),
+            ],
+            fails: &[3],
+            came: Came::Read,
+            faults: 1,
+            ..plain()
+        },
+        refused(
+            &[("nodes = 1", "nodes = 2"), ("pages = 16", "pages = 17")],
+            Came::Unbuilt(UnbuiltKey::Nodes),
+        ),
+        refused(&[("pages = 16", "pages = 17")], Came::Admission(0, 17, 16)),
+    ];
+    for case in &rows {
+        try_case(&rt, rt.alloc(), case)?;
+    }
+    Ok(())
+}
+
+/// A change of the description: what is replaced, and by what.
+type Change<'a> = (&'a str, &'a str);
+
+const DISK: Change<'static> = ("vcpus = 1", "vcpus = 1\ndisk = \"d.img\"");
+
+const IMAGE_AS_DISK: Change<'static> = ("vcpus = 1", "vcpus = 1\ndisk = \"a.raw\"");
+
+const MIGRATE: Change<'static> = ("[[work]]", "[policy]\nmigrate = 1\nreplicate = 1\n[[work]]");
+
+const INPUT: Change<'static> = (
+    "steps = 5",
+    "steps = 5\n[[input]]\nguest = 0\nat = 0\ntext = \"x\"",
+);
+
+/// What isn't built, in the order of the list.
+#[test]
+fn keys_in_order(rt: HostRuntime) -> Result<(), Fail> {
+    let rows = [
+        refused(
+            &[
+                ("processors = [0]", "processors = [0, 0]"),
+                ("nodes = 1", "nodes = 2\ncache = 1"),
+            ],
+            Came::Unbuilt(UnbuiltKey::Nodes),
+        ),
+        refused(
+            &[("processors = [0]", "processors = [0, 0]\ncache = 1")],
+            Came::Unbuilt(UnbuiltKey::Processors),
+        ),
+        refused(
+            &[
+                ("processors = [0]", "processors = [0]\ncache = 1"),
+                ("vcpus = 1", "vcpus = 2"),
+            ],
+            Came::Unbuilt(UnbuiltKey::Cache),
+        ),
+        refused(
+            &[(
+                "[[guest]]",
+                "[[guest]]\nimage = \"a.raw\"\nform = \"raw\"\npages = 1\nvcpus = 2\nnode = 0\n[[guest]]",
+            )],
+            Came::Unbuilt(UnbuiltKey::Guests),
+        ),
+        refused(
+            &[("vcpus = 1", "vcpus = 2\ndisk = \"d.img\"")],
+            Came::Unbuilt(UnbuiltKey::Vcpus(0)),
+        ),
+        refused(&[DISK, MIGRATE], Came::Unbuilt(UnbuiltKey::Disk(0))),
+        refused(&[MIGRATE], Came::Unbuilt(UnbuiltKey::Migrate)),
+        refused(
+            &[("[[work]]", "[policy]\nreplicate = 1\n[[work]]")],
+            Came::Unbuilt(UnbuiltKey::Replicate),
+        ),
+        refused(
+            &[(
+                "steps = 5",
+                "steps = 5\n[[work]]\nact = \"fail\"\nprocessor = 0\ncell = 0",
+            )],
+            Came::Unbuilt(UnbuiltKey::Act(1)),
+        ),
+        refused(&[INPUT], Came::Unbuilt(UnbuiltKey::Input)),
+    ];
+    for case in &rows {
+        try_case(&rt, rt.alloc(), case)?;
+    }
+    Ok(())
+}
+
+/// Guests alone: their disks and their input are built, and what comes after a disk is passed over.
+#[test]
+fn guests_alone(rt: HostRuntime) -> Result<(), Fail> {
+    let rows = [
+        Case {
+            came: Came::Alone(1, 0, 0),
+            ..plain()
+        },
+        Case {
+            changes: &[DISK, MIGRATE],
+            disk: 4097,
+            came: Came::Alone(1, 1, 2),
+            ..plain()
+        },
+        Case {
+            changes: &[DISK],
+            disk: 0,
+            came: Came::Alone(1, 1, 0),
+            ..plain()
+        },
+        Case {
+            changes: &[DISK],
+            disk: 4_194_304,
+            came: Came::Alone(1, 1, 1024),
+            ..plain()
+        },
+        Case {
+            changes: &[DISK],
+            disk: 4_194_305,
+            came: Came::Long,
+            ..plain()
+        },
+        Case {
+            changes: &[MIGRATE],
+            came: Came::Unbuilt(UnbuiltKey::Migrate),
+            ..plain()
+        },
+        Case {
+            changes: &[("pages = 16", "pages = 17")],
+            came: Came::Admission(0, 17, 16),
+            ..plain()
+        },
+        Case {
+            changes: &[INPUT],
+            came: Came::Alone(1, 0, 0),
+            ..plain()
+        },
+        // The image is the disk too: one read, and each place has its own limit.
+        Case {
+            changes: &[IMAGE_AS_DISK],
+            fails: &[3],
+            came: Came::Alone(1, 1, 1),
+            ..plain()
+        },
+        Case {
+            changes: &[
+                IMAGE_AS_DISK,
+                ("pages = 16", "pages = 2048"),
+                ("frames = 16", "frames = 2048"),
+            ],
+            image: 4_194_308,
+            fails: &[3],
+            came: Came::Long,
+            ..plain()
+        },
+    ];
+    for case in &rows {
+        let alone = Case {
+            option: "--private",
+            ..*case
+        };
+        try_case(&rt, rt.alloc(), &alone)?;
+    }
+    Ok(())
+}
+
+/// Each disk is made once, in the order of the guests.
+#[test]
+fn disks_in_order(rt: HostRuntime) -> Result<(), Fail> {
+    let alloc = rt.alloc();
+    let mut files = FileList::new(alloc);
+    files.push(held(alloc, "m", zeros(alloc, 4)?)?)?;
+    files.push(held(alloc, "d", zeros(alloc, 4096)?)?)?;
+    files.push(held(alloc, "e", zeros(alloc, 4097)?)?)?;
+    let places = [Some(2), None, Some(1), Some(2)];
+    let (disks, numbers) = disks_in(alloc, files.as_slice(), &places)?;
+    let mut blocks = Vec::new(alloc);
+    for disk in disks.as_slice() {
+        blocks.push(disk.len())?;
+    }
+    assert_eq!(rt; blocks.as_slice(), [2usize, 1].as_slice());
+    let expected = [Some(0usize), None, Some(1), Some(0)];
+    assert_eq!(rt; numbers.as_slice(), expected.as_slice());
+    Ok(())
+}

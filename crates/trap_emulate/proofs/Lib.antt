@@ -1,0 +1,12 @@
+pub mod AccessLemmas
+pub mod ChangeLemmas
+pub mod ExpectLemmas
+pub mod FitLemmas
+pub mod HardwareLemmas
+pub mod JoinLemmas
+pub mod MakeLemmas
+pub mod StepLemmas
+pub mod TrapLemmas
+pub mod TryLemmas
+pub mod WordLemmas
+pub mod StandInLemmas

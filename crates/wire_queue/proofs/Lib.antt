@@ -1,0 +1,10 @@
+pub mod Views
+pub mod Moves
+pub mod Firsts
+pub mod Tables
+pub mod QueueTables
+pub mod MadeLemmas
+pub mod ListLemmas
+pub mod ClosingLemmas
+pub mod Callers
+pub mod CallerLists

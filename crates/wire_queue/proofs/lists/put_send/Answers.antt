@@ -1,0 +1,12 @@
+use Rattle.std.proofs.Common.{refl}
+use Rattle.wire_queue.proofs.Tables.{kept, changed}
+use Rattle.wire_queue.proofs.lists.put_send.Goals as goal
+
+pub returns-clause-sends : goal.returns-clause-sends
+returns-clause-sends c = changed (λ list. list.sends.items) c.args.lists.now.items c.args.from.0 c.args.to.0 c.index_mut.result.now _ _ c.requires.row c.index_mut.ensures.value refl
+
+pub returns-clause-takes : goal.returns-clause-takes
+returns-clause-takes c = kept (λ list. list.takes.items) c.args.lists.now.items c.args.from.0 c.index_mut.result.now _ c.index_mut.ensures.value refl
+
+pub returns-clause-guests : goal.returns-clause-guests
+returns-clause-guests c = kept (λ list. list.guest.0) c.args.lists.now.items c.args.from.0 c.index_mut.result.now _ c.index_mut.ensures.value refl

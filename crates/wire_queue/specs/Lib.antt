@@ -1,0 +1,15 @@
+pub mod Packets
+pub mod Lines
+pub mod Logs
+pub mod WireRule
+pub mod QueueIds
+pub mod Ends
+pub mod EndParts
+pub mod Between
+pub mod WireParts
+pub mod Steps
+pub mod PassTables
+pub mod PassLists
+pub mod Making
+pub mod Closing
+pub mod ListSteps

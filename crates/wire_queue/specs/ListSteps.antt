@@ -1,0 +1,53 @@
+-- What a guest's calls on its passes answer, and what they leave.
+use Rattle.std.specs.Prelude.{◌≡◌, ◌≢◌, ◌↔◌, ℕ, Bool, IsTrue, Option, Some}
+use Rattle.wire_queue.specs.Ends.{Sending, Taking}
+use Rattle.wire_queue.specs.Steps.{SentBy, TakenBy, AreFirstOf}
+use Rattle.wire_queue.specs.PassLists.{sending_to, taking_from}
+use Rattle.wire_queue.specs.declared.packet.WirePacket.{WirePacket}
+use Rattle.wire_queue.specs.declared.lists.PassList.{PassList}
+use Rattle.wire_queue.specs.declared.wires.Sent.{Sent}
+
+-- at most the end of the wire to this guest is another
+pub record SendsOnly (old new : PassList) (to : ℕ) : Type 0 where
+  pub guest : new.guest ≡ old.guest
+  pub sends : (other : ℕ) → other ≢ to → sending_to new other ≡ sending_to old other
+  pub takes : (other : ℕ) → taking_from new other ≡ taking_from old other
+
+-- at most the end of the wire from this guest is another
+pub record TakesOnly (old new : PassList) (from : ℕ) : Type 0 where
+  pub guest : new.guest ≡ old.guest
+  pub sends : (other : ℕ) → sending_to new other ≡ sending_to old other
+  pub takes : (other : ℕ) → other ≢ from → taking_from new other ≡ taking_from old other
+
+-- a packet was put on the wire to a guest, or comes back
+pub record SendsTo (old : PassList) (to : ℕ) (packet : WirePacket) (answer : Sent) (new : PassList) : Type 0 where
+  pub before : Sending
+  pub after : Sending
+  pub was : sending_to old to ≡ Some before
+  pub is : sending_to new to ≡ Some after
+  pub sent : SentBy before packet answer after
+  pub only : SendsOnly old new to
+
+-- a packet was taken from the wire from a guest, or there was none
+pub record TakesFrom (old : PassList) (from : ℕ) (answer : Option WirePacket) (new : PassList) : Type 0 where
+  pub before : Taking
+  pub after : Taking
+  pub was : taking_from old from ≡ Some before
+  pub is : taking_from new from ≡ Some after
+  pub taken : TakenBy before answer after
+  pub only : TakesOnly old new from
+
+-- all ends stay
+pub record SameEnds (old new : PassList) : Type 0 where
+  pub guest : new.guest ≡ old.guest
+  pub sends : (other : ℕ) → sending_to new other ≡ sending_to old other
+  pub takes : (other : ℕ) → taking_from new other ≡ taking_from old other
+
+-- whether a guest has taken all that the wire from another guest accepted
+pub record HasTaken (receiver sender : PassList) (answer : Bool) : Type 0 where
+  pub end : Sending
+  pub other : Taking
+  pub sends : sending_to sender receiver.guest.0 ≡ Some end
+  pub takes : taking_from receiver sender.guest.0 ≡ Some other
+  pub all : IsTrue answer ↔ (other.taken ≡ end.accepted)
+  pub first : AreFirstOf other.taken end.accepted
