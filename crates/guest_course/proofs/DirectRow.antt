@@ -16,14 +16,14 @@ use Rattle.isolation_law.specs.Surroundings.{cell_of_frame}
 use Rattle.isolation_law.specs.GuestState.{GuestState, processor, vcpu_of}
 use Rattle.isolation_law.specs.Content.{content}
 use Rattle.isolation_law.specs.Start.{no_cells}
-use Rattle.isolation_law.specs.DirectStep.{with_inputs, sight, held_of, relinked, data_noted, direct}
+use Rattle.isolation_law.specs.DirectStep.{with_inputs, lost_frames, sight, held_of, relinked, data_noted, direct}
 use Rattle.isolation_law.specs.Traps.{step_on}
 use Rattle.guest_course.specs.HardwareView.{links_of, held_by, sight_at, MakesDirect, MakesNone}
 use Rattle.guest_course.specs.Joining.{waits_for, joined_if, joined_page, lined_if, lined, is_due}
 use Rattle.guest_course.specs.StepCalls.{MayStep, StepsDirect, TrapsFor}
 use Rattle.guest_course.proofs.JoinLemmas.{links-lined, at-lined, interrupts-lined, joined-after, steps-stepped}
 
-joined-vcpus : (m : PrivateMachine) (v : ℕ) → (joined m v).vcpus ≡ lined v (waits_for m.vcpus m.devices) m.vcpus
+pub joined-vcpus : (m : PrivateMachine) (v : ℕ) → (joined m v).vcpus ≡ lined v (waits_for m.vcpus m.devices) m.vcpus
 joined-vcpus m v = elim (v == 0) as (λ b. (if b then input_joined m else m).vcpus ≡ lined_if b (waits_for m.vcpus m.devices) m.vcpus) [ true ↦ refl | false ↦ refl ]
 
 joined-devices : (m : PrivateMachine) (v : ℕ) → (joined m v).devices ≡ joined_page v m.vcpus m.devices
@@ -36,6 +36,9 @@ none-dead (suc zero) = refl
 none-dead (suc (suc zero)) = refl
 none-dead (suc (suc (suc zero))) = refl
 none-dead (suc (suc (suc (suc k)))) = refl
+
+pub no-frame-lost : (s : GuestState) → s.dead ≡ no_cells → (frame : ℕ) → lost_frames s.around s.dead frame ≡ false
+no-frame-lost s live frame = ap (λ (l : List Bool). get_or l (cell_of_frame s.around frame) false) live ∙ none-dead (cell_of_frame s.around frame)
 
 -- what the processor of the code goes by is what the definition's does
 sight-same : (s : GuestState) (p v : ℕ) (line : Bool) → s.dead ≡ no_cells → 0 < length s.vcpus → line ≡ is_due v (waits_for s.vcpus s.devices) (vcpu_of s v)
@@ -57,7 +60,7 @@ held-same s v =
     let links : links_of s.vcpus ≡ links_of (with_inputs s v).vcpus = sym (links-lined v waits s.vcpus) ∙ ap links_of (sym (joined-vcpus (content s) v)) in
     λ i. record { pages = s.pages; links = links i }
 
-regs-same : (s : GuestState) (v : ℕ) → (vcpu_of s v).registers ≡ (vcpu_of (with_inputs s v) v).registers
+pub regs-same : (s : GuestState) (v : ℕ) → (vcpu_of s v).registers ≡ (vcpu_of (with_inputs s v) v).registers
 regs-same s v =
     let waits = waits_for s.vcpus s.devices in
     sym (at-lined v waits s.vcpus).registers ∙ ap (λ (l : List Vcpu). (get_or l v no_vcpu).registers) (sym (joined-vcpus (content s) v))

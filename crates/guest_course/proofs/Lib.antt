@@ -8,3 +8,10 @@ pub mod PlainLemmas
 pub mod VecLemmas
 pub mod PlaceLemmas
 pub mod StepProofs
+pub mod RebackLemmas
+pub mod LoadProofs
+pub mod GrantLemmas
+pub mod FillProofs
+pub mod TrapLemmas
+pub mod RefillProofs
+pub mod EmulateProofs

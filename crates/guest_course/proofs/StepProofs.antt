@@ -1,5 +1,5 @@
 -- A step through a processor's TLB keeps what holds of a guest, and is its row.
-use Rattle.std.proofs.Common.{◌≡◌, ℕ, ◌<◌, ◌≤◌, ◌==◌, Bool, true, false, Some, None, Result, Ok, List, length, map, get_or, replicate, refl, sym, ap, ◌∙◌, subst, length-set}
+use Rattle.std.proofs.Common.{◌≡◌, ℕ, ◌<◌, ◌≤◌, ◌==◌, if◌then◌else◌, Bool, true, false, Some, None, Result, Ok, List, length, map, get_or, replicate, refl, sym, ap, ◌∙◌, subst, length-set}
 use Rattle.base_words.specs.declared.trap.Access.{Access}
 use Rattle.base_words.specs.declared.trap.DataAccess.{DataAccess}
 use Rattle.base_words.specs.declared.trap.DataAccess.TheVariants as access_of
@@ -19,7 +19,8 @@ use Rattle.isolation_law.specs.GuestState.{GuestState, idle, processor, vcpu_of}
 use Rattle.isolation_law.specs.Coherence.{Coherent}
 use Rattle.isolation_law.specs.DataWithin.{IsWithinPages}
 use Rattle.isolation_law.specs.DirectStep.{with_inputs, held_of, data_noted}
-use Rattle.isolation_law.specs.Phases.{all_halted}
+use Rattle.isolation_law.specs.Phases.{all_halted, GoesOn, Runs}
+use Rattle.base_words.specs.declared.events.End.TheVariants.{Halted}
 use Rattle.isolation_law.specs.Traps.{step_on}
 use Rattle.guest_course.specs.declared.course.Course.{Course}
 use Rattle.guest_course.specs.CourseView.{processor_of, state_of}
@@ -31,7 +32,8 @@ use Rattle.std.specs.Global.{Vec}
 use Rattle.guest_course.specs.declared.place.Place.{Place}
 use Rattle.guest_course.proofs.PlaceLemmas.{loaded-below}
 use Rattle.guest_course.proofs.ShownLemmas.{stepped-length}
-use Rattle.guest_course.proofs.PlainLemmas.{AllPlain, StaysPlain, stepped-plain, halted-shown}
+use Rattle.guest_course.proofs.PlainLemmas.{stepped-plain, halted-shown, halted-at}
+use Rattle.guest_course.specs.Rebacking.{AllPlain, StaysPlain}
 use Rattle.guest_course.proofs.DirectRow.{left_by_step, traps-for, direct-row, direct-pages}
 
 -- what a step of the hardware leaves as it was
@@ -137,11 +139,8 @@ vcpus-count c d p v access m =
     ∙ ap length e.made.vcpus_are ∙ stepped-length v e.made.o c.vcpus.items
 
 -- what is shown stays, and so who has halted
-halts : (c d : Course) (p v : ℕ) (access : Access) → Made c d p v access → all_halted d.vcpus.items ≡ all_halted c.vcpus.items
-halts c d p v access m =
-    let shown : map shown_by d.vcpus.items ≡ map shown_by c.vcpus.items =
-    m.hardware.agree ∙ ap (λ (x : DeviceState). shown_from x.packet x.halted x.called) m.hardware.devs ∙ sym m.sound.agree in
-    halted-shown d.vcpus.items c.vcpus.items shown
+shows : (c d : Course) (p v : ℕ) (access : Access) → Made c d p v access → map shown_by d.vcpus.items ≡ map shown_by c.vcpus.items
+shows c d p v access m = m.hardware.agree ∙ ap (λ (x : DeviceState). shown_from x.packet x.halted x.called) m.hardware.devs ∙ sym m.sound.agree
 
 -- what noting leaves as it was
 pub record Noted (d x : Course) : Type 0 where
@@ -155,13 +154,11 @@ going-after c d x p v access m n co =
     let plain = stays-plain c d p v access m in
     let pmap : x.pmap ≡ d.pmap = ap (λ (y : Course). y.pmap) n.same in
     let devs : x.devs ≡ d.devs = ap (λ (y : Course). y.devs) n.same in
-    let vcpus : x.vcpus ≡ d.vcpus = ap (λ (y : Course). y.vcpus) n.same in
     let around : x.around ≡ c.around = ap (λ (y : Course). y.around) n.same ∙ ap (λ (y : Course). y.around) m.hardware.same in
     let counters : d.counters ≡ c.counters = ap (λ (y : Course). y.counters) m.hardware.same in
     let counted : AreCounters (length c.pmap.pages) (length c.around.site.shape.cells) x.counters = n.counted _ _ (rw counters going.counted) in
     record {
       coherent = co;
-      runs = ap (λ l. all_halted l.items) vcpus ∙ halts c d p v access m ∙ going.runs;
       pages = ap (λ y. y.state.pages) devs ∙ ap (λ (y : DeviceState). y.pages) m.hardware.devs ∙ going.pages ∙ sym plain.long ∙ ap (λ y. length y.pages) (sym pmap);
       plain = rw pmap (plain.plain going.plain);
       counted = rw (pmap, around, plain.long) counted;
@@ -230,9 +227,28 @@ sound-stays c d p v cause sound h u =
           let going = sound.going (sym ends ∙ on) in
           record {
             coherent = subst Coherent (sym (stays c d p v cause h u)) going.coherent;
-            runs = ap all_halted vcpus ∙ going.runs;
             pages = ap (λ (y : DeviceState). y.pages) h.devs ∙ going.pages ∙ ap length (sym pages);
             plain = subst (λ (l : List Page). AllPlain l) (sym pages) going.plain;
             counted = rw (pages, around, counters) going.counted;
           };
+    }
+
+-- the guest goes on, and so does the virtual processor
+pub goes-on : (c d : Course) → all_halted d.vcpus.items ≡ all_halted c.vcpus.items → d.ended ≡ c.ended → GoesOn (state_of c) → GoesOn (state_of d)
+goes-on c d halts ends on = record {
+  not_ended = ends ∙ on.not_ended;
+  owes_no_end = ap (λ (b : Bool). if b then Some Halted else None) halts ∙ on.owes_no_end;
+}
+
+pub step-goes-on : (c d x : Course) (p v : ℕ) (access : Access) → Made c d p v access → Noted d x → GoesOn (state_of x)
+step-goes-on c d x p v access m n =
+    goes-on c x (ap (λ (y : Course). all_halted y.vcpus.items) n.same ∙ halted-shown d.vcpus.items c.vcpus.items (shows c d p v access m))
+    (ap (λ (y : Course). y.ended) n.same ∙ ap (λ (y : Course). y.ended) m.hardware.same) m.may.goes_on
+
+pub step-runs : (c d x : Course) (p v : ℕ) (access : Access) → Made c d p v access → Noted d x → Runs (state_of x) p v
+step-runs c d x p v access m n =
+    let places : x.places ≡ c.places = ap (λ (y : Course). y.places) n.same ∙ ap (λ (y : Course). y.places) m.hardware.same in
+    record {
+      loaded = ap (λ (l : Vec Place). (get_or (map processor_of l.items) p idle).loaded) places ∙ m.may.runs.loaded;
+      running = ap (λ (y : Course). (get_or y.vcpus.items v no_vcpu).halted) n.same ∙ halted-at v d.vcpus.items c.vcpus.items (shows c d p v access m) ∙ m.may.runs.running;
     }

@@ -7,7 +7,6 @@ use Rattle.page_policy.specs.Pages.{AreCounters}
 use Rattle.guest_devs.specs.Shown.{Agree}
 use Rattle.isolation_law.specs.Surroundings.{Surroundings, node_of_processor}
 use Rattle.isolation_law.specs.GuestState.{processor}
-use Rattle.isolation_law.specs.Phases.{all_halted}
 use Rattle.isolation_law.specs.Coherence.{Coherent}
 use Rattle.guest_course.specs.declared.place.Place.{Place}
 use Rattle.guest_course.specs.declared.course.Course.{Course}
@@ -40,11 +39,10 @@ pub record IsSized (c : Course) : Type 0 where
   pub due : length c.due.items ≡ length c.places.items
   pub few_pages : length c.pmap.pages ≤ 2048
 
--- the virtual processors show what the devices keep; each that is loaded is there; and until the guest ends it is coherent, one
--- of its virtual processors runs, and each page is plain, with its counters
+-- the virtual processors show what the devices keep; each that is loaded is there; and until the guest ends it is coherent, and each
+-- page is plain, with its counters
 pub record IsGoing (c : Course) : Type 0 where
   pub coherent : Coherent (state_of c)
-  pub runs : all_halted c.vcpus.items ≡ false
   pub pages : c.devs.state.pages ≡ length c.pmap.pages
   pub plain : (q : ℕ) → q < length c.pmap.pages → IsPlain (page_at c.pmap.pages q)
   pub counted : AreCounters (length c.pmap.pages) (length c.around.site.shape.cells) c.counters

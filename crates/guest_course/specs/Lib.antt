@@ -3,4 +3,9 @@ pub mod CourseView
 pub mod CourseRules
 pub mod Joining
 pub mod StepCalls
+pub mod Rebacking
+pub mod LoadCalls
+pub mod Granting
+pub mod RefillCalls
+pub mod EmulateCalls
 pub mod Executed

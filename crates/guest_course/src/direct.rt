@@ -3,6 +3,7 @@ ghost use Rattle.std.specs.Prelude.{◌≡◌};
 ghost use Rattle.guest_devs.specs.DeviceCalls.{on_page};
 ghost use Rattle.guest_devs.specs.Shown.{Agree};
 ghost use Rattle.isolation_law.specs.GuestState.{processor as processor_at};
+ghost use Rattle.isolation_law.specs.Phases.{GoesOn, Runs};
 ghost use Rattle.guest_course.specs.CourseView.{state_of};
 ghost use Rattle.guest_course.specs.CourseRules.{IsSound};
 ghost use Rattle.guest_course.specs.Executed.{outcome_at, parts_of, ExecutesOn};
@@ -40,6 +41,8 @@ impl Course {
         requires may { MayStep (state_of self.old) processor.0 vcpu.0 }
         ensures sound { IsSound self.new }
         ensures executes { Executes (state_of self.old) processor.0 vcpu.0 (state_of self.new) result }
+        ensures goes_on { GoesOn (state_of self.new) }
+        ensures runs { Runs (state_of self.new) processor.0 vcpu.0 }
         ensures print_room { self.new.devs.print_room ≡ self.old.devs.print_room }
         ensures send_room { self.new.devs.send_room ≡ self.old.devs.send_room }
         ensures room { self.new.pmap.room ≡ self.old.pmap.room }

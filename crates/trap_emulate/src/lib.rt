@@ -15,6 +15,7 @@ pub use base_words::{Exception, MoveKind, TrapCause};
 pub use emulated::{Emulated, EntryWrite, Standing};
 pub use guest_devs::DevAct;
 pub use laws::{input_keeps, step_leads, traps_hold};
+pub use requests::{Access, access_of, asked};
 pub use stepping::emulate;
 
 #[cfg(test)]

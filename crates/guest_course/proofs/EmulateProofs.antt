@@ -1,0 +1,244 @@
+-- A step that the monitor makes is its row, and keeps what holds of a guest.
+use Rattle.std.proofs.Common.{◌≡◌, ℕ, ◌<◌, ◌≤◌, if◌then◌else◌, true, false, List, [], ◌∷◌, Option, Some, None, Err, length, map, get_or, set, refl, sym, ap, ◌∙◌, subst, length-set, true≢false}
+use Rattle.std.proofs.lemmas.List.{map-set}
+use Rattle.std.specs.Global.{Vec}
+use Rattle.base_words.specs.declared.trap.TrapCause.{TrapCause}
+use Rattle.base_words.specs.Halves.{without_pair}
+use Rattle.base_words.specs.Tlb.{page_pair, entry_read}
+use Rattle.private_machine.specs.declared.vcpu.Vcpu.{Vcpu}
+use Rattle.private_machine.specs.Vcpu.{held_entry}
+use Rattle.private_machine.specs.DeviceAct.{WritesEntry, NoAct}
+use Rattle.private_machine.specs.HardwareStep.{Trap, Line, FetchMiss, DataMiss, ReadOnly, Address, Privileged, Raised, Dead}
+use Rattle.private_machine.specs.OwnStep.{joined, input_joined, own_step}
+use Rattle.private_machine.specs.PrivateMachine.{PrivateMachine, vcpu}
+use Rattle.private_machine.specs.Reaching.{Wanted}
+use Rattle.private_machine.specs.SecondLevel.{seconds_without_pair}
+use Rattle.private_machine.specs.TrapAccess.{trapped_access, grants}
+use Rattle.hw_tlb.specs.Tlb.{Tlb, halves}
+use Rattle.trap_emulate.specs.declared.emulated.EntryWrite.{EntryWrite}
+use Rattle.trap_emulate.specs.GuestView.{Fits}
+use Rattle.trap_emulate.specs.Trapped.{IsTrap, IsDenied as DeniedTrap}
+use Rattle.trap_emulate.specs.Emulation.{Wrote, Emulates as Tells}
+use Rattle.trap_emulate.specs.declared.emulated.Emulated.TheVariants.{Done}
+use Rattle.isolation_law.specs.Parts.{Processor}
+use Rattle.isolation_law.specs.GuestState.{GuestState, idle, processor, vcpu_of}
+use Rattle.isolation_law.specs.Content.{content, with_own}
+use Rattle.isolation_law.specs.Coherence.{Coherent}
+use Rattle.isolation_law.specs.DirectStep.{with_inputs, sight}
+use Rattle.isolation_law.specs.Needs.{needed}
+use Rattle.isolation_law.specs.Start.{no_cells}
+use Rattle.isolation_law.specs.StepAct.{at_hand}
+use Rattle.isolation_law.specs.StepRows.{IsEmulated, Emulates, pair_dropped, old_pair, new_pair, act_done}
+use Rattle.isolation_law.specs.Traps.{step_on, is_granted}
+use Rattle.guest_course.specs.declared.place.Place.{Place}
+use Rattle.guest_course.specs.declared.course.Course.{Course}
+use Rattle.guest_course.specs.CourseView.{surroundings, processor_of, state_of}
+use Rattle.guest_course.specs.CourseRules.{IsSound, StandsAt, AllStand}
+use Rattle.guest_course.specs.Rebacking.{StaysPlain, Rebacked}
+use Rattle.guest_course.specs.StepCalls.{MayStep, IsDenied}
+use Rattle.guest_course.specs.EmulateCalls.{written_dropped}
+use Rattle.guest_course.proofs.NotingLemmas.{stands}
+use Rattle.guest_course.proofs.DirectRow.{no-frame-lost}
+use Rattle.guest_course.proofs.JoinLemmas.{by-first}
+use Rattle.guest_course.proofs.RebackLemmas.{stands-set, processor-at, loaded-elsewhere}
+use Rattle.guest_course.proofs.TrapLemmas.{never-dead}
+
+-- what is granted is granted once the input has joined
+granted-joined : (m : PrivateMachine) (v : ℕ) (w : Wanted) → grants (joined m v) v (Some w) ≡ grants m v (Some w)
+granted-joined m v w = by-first (λ n b. grants (if b then input_joined m else m) n (Some w) ≡ grants m n (Some w)) v (first m.vcpus) refl
+  where
+    first : (l : List Vcpu) → grants (input_joined (record m { vcpus = l })) 0 (Some w) ≡ grants (record m { vcpus = l }) 0 (Some w)
+    first [] = refl
+    first (c ∷ l) = refl
+
+-- why the hardware trapped, as the code that emulates asks for it
+denied-trap : (s : GuestState) (p v : ℕ) (trap : Trap) → s.dead ≡ no_cells → step_on s p v ≡ Err trap → is_granted s v (trapped_access trap) ≡ false → DeniedTrap (joined (content s) v) v None trap
+denied-trap s p v Line live is denied = tt
+denied-trap s p v (FetchMiss w) live is denied = granted-joined (content s) v w ∙ denied
+denied-trap s p v (DataMiss word w) live is denied = granted-joined (content s) v w ∙ denied
+denied-trap s p v (ReadOnly word w) live is denied = λ granted none. true≢false (sym granted ∙ granted-joined (content s) v w ∙ denied)
+denied-trap s p v (Address word) live is denied = tt
+denied-trap s p v (Privileged word) live is denied = tt
+denied-trap s p v (Raised x) live is denied = tt
+denied-trap s p v (Dead frame w) live is denied =
+    never-dead (sight (with_inputs s v) p v) (with_inputs s v).pages (vcpu_of (with_inputs s v) v).registers frame w (no-frame-lost s live) is
+
+pub is-trap : (s : GuestState) (p v : ℕ) (cause : TrapCause) → s.dead ≡ no_cells → IsDenied s p v cause → IsTrap (joined (content s) v) v None cause
+is-trap s p v cause live d = record {
+  sight = sight (with_inputs s v) p v;
+  backing = (with_inputs s v).pages;
+  trap = d.why.trap;
+  user = refl;
+  asid = refl;
+  line = refl;
+  traps = d.why.traps;
+  told = d.why.told;
+  denied = denied-trap s p v d.why.trap live d.why.traps d.denied;
+}
+
+-- what a step leaves that is made by hand, and what may be changed of its backing afterwards
+pub record Remade (c d : Course) : Type 0 where
+  pub around : d.around ≡ c.around
+  pub counters : d.counters ≡ c.counters
+  pub ended : d.ended ≡ c.ended
+  pub vcpus : length d.vcpus.items ≡ length c.vcpus.items
+  pub fits : Fits (length d.pmap.pages) d.vcpus.items d.devs.state
+  pub seconds : length d.seconds.items ≡ length c.seconds.items
+  pub places : length d.places.items ≡ length c.places.items
+  pub due : length d.due.items ≡ length c.due.items
+  pub plain : StaysPlain c.pmap.pages d.pmap.pages
+  pub stands : AllStand (surroundings c.around) 0 d.places.items
+
+pub remade : (c d : Course) → d ≡ record c { vcpus = d.vcpus; devs = d.devs } → length d.vcpus.items ≡ length c.vcpus.items → Fits (length c.pmap.pages) d.vcpus.items d.devs.state → AllStand (surroundings c.around) 0 c.places.items → Remade c d
+remade c d same long fits stand =
+    let places : d.places ≡ c.places = ap (λ (y : Course). y.places) same in
+    let pmap = ap (λ (y : Course). y.pmap) same in
+    record {
+      around = ap (λ (y : Course). y.around) same;
+      counters = ap (λ (y : Course). y.counters) same;
+      ended = ap (λ (y : Course). y.ended) same;
+      vcpus = long;
+      fits = rw pmap fits;
+      seconds = ap (λ (y : Course). length y.seconds.items) same;
+      places = ap (λ (y : Course). length y.places.items) same;
+      due = ap (λ (y : Course). length y.due.items) same;
+      plain = record { long = ap (λ (y : Course). length y.pmap.pages) same; plain = λ all. rw pmap all };
+      stands = rw places stand;
+    }
+
+-- after what may be changed of its backing
+pub remade-rebacked : (c d e : Course) → Remade c d → Rebacked d e → Remade c e
+remade-rebacked c d e m r = record {
+  around = r.around ∙ m.around;
+  counters = r.counters ∙ m.counters;
+  ended = r.ended ∙ m.ended;
+  vcpus = ap (λ (l : Vec Vcpu). length l.items) r.vcpus ∙ m.vcpus;
+  fits = rw (r.vcpus, r.devs, r.plain.long) m.fits;
+  seconds = r.seconds ∙ m.seconds;
+  places = r.places ∙ m.places;
+  due = r.due ∙ m.due;
+  plain = record { long = r.plain.long ∙ m.plain.long; plain = λ all. r.plain.plain (m.plain.plain all) };
+  stands = subst (λ a. AllStand (surroundings a) 0 e.places.items) m.around r.stands;
+}
+
+pub sound-remade : (c d : Course) → IsSound c → c.ended ≡ None → Remade c d
+    → ((p v : ℕ) → (processor (state_of d) p).loaded ≡ Some v → v < length c.vcpus.items) → Coherent (state_of d) → IsSound d
+sound-remade c d sound on m loaded co =
+    let sized = sound.sized in
+    let going = sound.going on in
+    record {
+      sized = record {
+        some_vcpus = subst (λ (k : ℕ). 0 < k) (sym m.vcpus) sized.some_vcpus;
+        few_vcpus = subst (λ (k : ℕ). k ≤ 4) (sym m.vcpus) sized.few_vcpus;
+        transfers = m.fits.transfers;
+        seconds = m.seconds ∙ sized.seconds ∙ sym m.vcpus;
+        few_processors = subst (λ (k : ℕ). k ≤ 16) (sym m.places) sized.few_processors;
+        due = m.due ∙ sized.due ∙ sym m.places;
+        few_pages = subst (λ (k : ℕ). k ≤ 2048) (sym m.plain.long) sized.few_pages;
+      };
+      agree = m.fits.agree;
+      loaded = λ p v is. subst (λ (k : ℕ). v < k) (sym m.vcpus) (loaded p v is);
+      places = rw m.around m.stands;
+      going = λ _. record {
+        coherent = co;
+        pages = m.fits.of_pages;
+        plain = m.plain.plain going.plain;
+        counted = rw (m.around, m.counters, m.plain.long) going.counted;
+      };
+    }
+
+-- what the going of a pair makes of a guest's parts
+pub record Drop (c d : Course) (p v pair : ℕ) : Type 0 where
+  pub same : d ≡ record c { places = d.places; seconds = d.seconds }
+  pub place : Place
+  pub at : place ≡ get_or c.places.items p place
+  pub tlb : Tlb
+  pub places : d.places.items ≡ set c.places.items p (record place { tlb = tlb })
+  pub without : halves tlb ≡ without_pair pair (halves place.tlb)
+  pub seconds : d.seconds.items ≡ set c.seconds.items v (seconds_without_pair pair (get_or c.seconds.items v []))
+
+pub is-dropped : (c d : Course) (p v pair : ℕ) → p < length c.places.items → Drop c d p v pair → state_of d ≡ pair_dropped p v pair (state_of c)
+is-dropped c d p v pair lt f =
+    let s = state_of c in
+    let here : processor s p ≡ processor_of f.place = processor-at c.places.items p f.place lt f.at in
+    let processors = ap (map processor_of) f.places ∙ map-set processor_of c.places.items p (record f.place { tlb = f.tlb })
+    ∙ (λ i. set (map processor_of c.places.items) p (record (sym here i) { tlb = (f.without ∙ ap (λ (x : Processor). without_pair pair x.tlb) (sym here)) i })) in
+    ap state_of f.same ∙ (λ i. record s { processors = processors i; seconds = f.seconds i })
+
+pub drop-rebacked : (c d : Course) (p v pair : ℕ) → p < length c.places.items → AllStand (surroundings c.around) 0 c.places.items → Drop c d p v pair → Rebacked c d
+drop-rebacked c d p v pair lt all f =
+    let around = surroundings c.around in
+    let pmap = ap (λ (y : Course). y.pmap) f.same in
+    let here : StandsAt around p f.place = subst (λ (y : Place). StandsAt around p y) (sym f.at) (stands around p c.places.items f.place all lt) in
+    record {
+      vcpus = ap (λ (y : Course). y.vcpus) f.same;
+      devs = ap (λ (y : Course). y.devs) f.same;
+      around = ap (λ (y : Course). y.around) f.same;
+      counters = ap (λ (y : Course). y.counters) f.same;
+      ended = ap (λ (y : Course). y.ended) f.same;
+      seconds = ap length f.seconds ∙ length-set c.seconds.items v (seconds_without_pair pair (get_or c.seconds.items v []));
+      places = ap length f.places ∙ length-set c.places.items p (record f.place { tlb = f.tlb });
+      due = ap (λ (y : Course). length y.due.items) f.same;
+      plain = record { long = ap (λ (y : Course). length y.pmap.pages) f.same; plain = λ plain. rw pmap plain };
+      stands = rw f.places (stands-set around p c.places.items (record f.place { tlb = f.tlb }) all (record { node = here.node; is_node = here.is_node; first = here.first; past = here.past }));
+    }
+
+-- what is loaded stays where pairs go
+pub loaded-dropped : (s : GuestState) (p v r pair : ℕ) → (processor (pair_dropped p v pair s) r).loaded ≡ (processor s r).loaded
+loaded-dropped s p v r pair = loaded-elsewhere s.processors p r (without_pair pair (processor s p).tlb)
+
+is-emulated : (s : GuestState) (p v : ℕ) (cause : TrapCause) → MayStep s p v → IsDenied s p v cause → IsEmulated s p v
+is-emulated s p v cause may d = record { goes_on = may.goes_on; runs = may.runs; may_act = may.may_act; trap = d.why.trap; traps = d.why.traps; is_no_access = d.denied }
+
+-- the state after a step that the monitor made
+own-after : (s : GuestState) (c d : Course) (v : ℕ) → s ≡ state_of c → d ≡ record c { vcpus = d.vcpus; devs = d.devs } → own_step (content s) v ≡ content (state_of d) → state_of d ≡ with_own (own_step (content s) v) s
+own-after s c d v is same whole = ap state_of same ∙ (λ i. record (sym is i) { vcpus = (sym whole i).vcpus; devices = (sym whole i).devices })
+
+-- one that wrote an entry of the guest's TLB, after which both pairs have gone
+pub writes-row : (c d : Course) (t : GuestState) (p v : ℕ) (cause : TrapCause) (w : EntryWrite) → MayStep (state_of c) p v → IsDenied (state_of c) p v cause
+    → d ≡ record c { vcpus = d.vcpus; devs = d.devs } → Wrote (content (state_of c)) v w (content (state_of d))
+    → (vcpu (joined (content (state_of c)) v) v).tlb ≡ (vcpu_of (state_of c) v).tlb
+    → held_entry (vcpu (joined (content (state_of c)) v) v).cp0 ≡ held_entry (vcpu_of (state_of c) v).cp0
+    → t ≡ pair_dropped p v w.new_pair (pair_dropped p v w.old_pair (state_of d)) → Emulates (state_of c) p v t
+writes-row c d t p v cause w may denied same wrote tlb entry is =
+    let s = state_of c in
+    let olds : w.old_pair ≡ old_pair s v w.index = wrote.old_pair ∙ ap (λ l. page_pair (entry_read l w.index).hi) tlb in
+    let news : w.new_pair ≡ new_pair s v = wrote.new_pair ∙ ap (λ e. page_pair e.hi) entry in
+    let act : at_hand s v ≡ WritesEntry w.index = wrote.made.does in
+    record {
+      traps = is-emulated s p v cause may denied;
+      shares = true;
+      needs_nothing = ap (needed s v true) act;
+      after = is
+          ∙ (λ i. pair_dropped p v (news i) (pair_dropped p v (olds i) (own-after s c d v refl same wrote.made.whole i)))
+          ∙ (λ i. with_own (own_step (content s) v) (act_done s p v (sym act i)));
+    }
+
+-- one that does nothing with a page
+pub makes-row : (c d : Course) (p v : ℕ) (cause : TrapCause) → MayStep (state_of c) p v → IsDenied (state_of c) p v cause → d ≡ record c { vcpus = d.vcpus; devs = d.devs }
+    → own_step (content (state_of c)) v ≡ content (state_of d) → at_hand (state_of c) v ≡ NoAct → Emulates (state_of c) p v (state_of d)
+makes-row c d p v cause may denied same whole act =
+    let s = state_of c in
+    record {
+      traps = is-emulated s p v cause may denied;
+      shares = true;
+      needs_nothing = ap (needed s v true) act;
+      after = own-after s c d v refl same whole ∙ (λ i. with_own (own_step (content s) v) (act_done s p v (sym act i)));
+    }
+
+-- what is loaded stays after a step that is made by hand
+pub loaded-made : (c d : Course) → d ≡ record c { vcpus = d.vcpus; devs = d.devs } → (r : ℕ) → (processor (state_of d) r).loaded ≡ (processor (state_of c) r).loaded
+loaded-made c d same r = ap (λ (y : Course). (get_or (map processor_of y.places.items) r idle).loaded) same
+
+-- one that was made whole, after which the pairs of the entry that it wrote have gone
+pub done-row : (c d : Course) (t : GuestState) (p v : ℕ) (cause : TrapCause) (written : Option EntryWrite) → MayStep (state_of c) p v → IsDenied (state_of c) p v cause
+    → d ≡ record c { vcpus = d.vcpus; devs = d.devs } → Tells (content (state_of c)) v None cause (content (state_of d)) (Done written)
+    → (vcpu (joined (content (state_of c)) v) v).tlb ≡ (vcpu_of (state_of c) v).tlb
+    → held_entry (vcpu (joined (content (state_of c)) v) v).cp0 ≡ held_entry (vcpu_of (state_of c) v).cp0
+    → t ≡ written_dropped p v written (state_of d) → Emulates (state_of c) p v t
+done-row c d t p v cause None may denied same step tlb entry is = subst (Emulates (state_of c) p v) (sym is) (makes-row c d p v cause may denied same step.whole step.does)
+done-row c d t p v cause (Some w) may denied same step tlb entry is = writes-row c d t p v cause w may denied same step tlb entry is
+
+pub loaded-written : (s : GuestState) (p v r : ℕ) (written : Option EntryWrite) → (processor (written_dropped p v written s) r).loaded ≡ (processor s r).loaded
+loaded-written s p v r None = refl
+loaded-written s p v r (Some w) = loaded-dropped (pair_dropped p v w.old_pair s) p v r w.new_pair ∙ loaded-dropped s p v r w.old_pair

@@ -1,0 +1,186 @@
+-- What a trap tells of the access for which it came.
+use Rattle.std.proofs.Common.{◌≡◌, ◌≢◌, ℕ, ◌/◌, ◌%◌, ◌==◌, ◌&&◌, if◌then◌else◌, Bool, true, false, not, List, Option, Some, None, Result, Ok, Err, find, refl, sym, ap, ◌∙◌, subst}
+use Rattle.base_words.specs.declared.exception.Exception.{Exception}
+use Rattle.base_words.specs.declared.regs.Regs.{Regs}
+use Rattle.base_words.specs.Halves.{Half, is_of}
+use Rattle.base_words.specs.Instruction.{Effect, effect}
+use Rattle.base_words.specs.OpcodeMap.{decoded}
+use Rattle.base_words.specs.Place.{Segment, Mapped, Direct, Outside, segment, is_store}
+use Rattle.private_machine.specs.Backing.{Page}
+use Rattle.private_machine.specs.OwnStep.{is_privileged}
+use Rattle.private_machine.specs.Reaching.{Wanted, Lack, NoRange, NoHalf, DeadFrame, NoStore, Sight, Reached, at_half, fetch_at, wanted, through_half, in_segment, reached}
+use Rattle.private_machine.specs.HardwareStep.{Trap, Line, FetchMiss, DataMiss, ReadOnly, Address, Privileged, Raised, Dead, Done, fetch_trap, data_trap, word_through, with_data, accesses, executes, decodes, fetches, hardware_step, cause_of}
+use Rattle.private_machine.specs.TrapAccess.{trapped_access, missed_access, TellsAccess}
+use Rattle.guest_course.specs.Granting.{missed_of, HasAccess}
+
+-- the access that a cause tells is the one that missed
+pub has-access : (regs : Regs) (trap : Trap) → TellsAccess regs trap → HasAccess regs (cause_of trap)
+has-access regs Line tells = tt
+has-access regs (FetchMiss w) tells = tt
+has-access regs (DataMiss word w) tells = (w, sym tells)
+has-access regs (ReadOnly word w) tells = tt
+has-access regs (Address word) tells = tt
+has-access regs (Privileged word) tells = tt
+has-access regs (Raised x) tells = tt
+has-access regs (Dead frame w) tells = tt
+
+pub missed-is : (regs : Regs) (trap : Trap) → TellsAccess regs trap → missed_of regs (cause_of trap) ≡ missed_access trap
+missed-is regs Line tells = refl
+missed-is regs (FetchMiss w) tells = sym tells
+missed-is regs (DataMiss word w) tells = sym tells
+missed-is regs (ReadOnly word w) tells = refl
+missed-is regs (Address word) tells = refl
+missed-is regs (Privileged word) tells = refl
+missed-is regs (Raised x) tells = refl
+missed-is regs (Dead frame w) tells = refl
+
+pub trapped-is : (trap : Trap) (w : Wanted) → missed_access trap ≡ Some w → trapped_access trap ≡ Some w
+trapped-is Line w e = cc
+trapped-is (FetchMiss x) w e = e
+trapped-is (DataMiss word x) w e = e
+trapped-is (ReadOnly word x) w e = cc
+trapped-is (Address word) w e = cc
+trapped-is (Privileged word) w e = cc
+trapped-is (Raised x) w e = cc
+trapped-is (Dead frame x) w e = cc
+
+-- what an access lacked
+pub record Lacks (x : Sight) (w : Wanted) : Type 0 where
+  pub lack : Lack
+  pub reaches : reached x w ≡ Err lack
+  pub ranges : lack ≢ NoRange
+
+same-some : (a b : Wanted) → ◌≡◌ {A = Option Wanted} (Some a) (Some b) → a ≡ b
+same-some a b e = cc
+
+fetch-lacks : (x : Sight) (w own : Wanted) (lack : Lack) → reached x own ≡ Err lack → missed_access (fetch_trap own lack) ≡ Some w → Lacks x w
+fetch-lacks x w own NoRange is e = cc
+fetch-lacks x w own NoHalf is e = subst (Lacks x) (same-some own w e) (record { lack = NoHalf; reaches = is; ranges = λ n. cc })
+fetch-lacks x w own (DeadFrame frame) is e = cc
+fetch-lacks x w own NoStore is e = subst (Lacks x) (same-some own w e) (record { lack = NoStore; reaches = is; ranges = λ n. cc })
+
+data-lacks : (x : Sight) (w own : Wanted) (word : ℕ) (lack : Lack) → reached x own ≡ Err lack → missed_access (data_trap word own lack) ≡ Some w → Lacks x w
+data-lacks x w own word NoRange is e = cc
+data-lacks x w own word NoHalf is e = subst (Lacks x) (same-some own w e) (record { lack = NoHalf; reaches = is; ranges = λ n. cc })
+data-lacks x w own word (DeadFrame frame) is e = cc
+data-lacks x w own word NoStore is e = cc
+
+trap-same : (a b : Trap) → ◌≡◌ {A = Result Done Trap} (Err a) (Err b) → a ≡ b
+trap-same a b e = cc
+
+with-data-lacks : (x : Sight) (w own : Wanted) (word : ℕ) (at : Reached) (does : Effect) (r : Result Reached Lack) (trap : Trap) → reached x own ≡ r → with_data word own at does r ≡ Err trap → missed_access trap ≡ Some w → Lacks x w
+with-data-lacks x w own word at does (Ok to) trap is e misses = cc
+with-data-lacks x w own word at does (Err lack) trap is e misses = data-lacks x w own word lack is (ap missed_access (trap-same (data_trap word own lack) trap e) ∙ misses)
+
+accesses-lacks : (x : Sight) (w : Wanted) (word : ℕ) (at : Reached) (does : Effect) (own : Option Wanted) (trap : Trap) → accesses x word at does own ≡ Err trap → missed_access trap ≡ Some w → Lacks x w
+accesses-lacks x w word at does None trap e misses = cc
+accesses-lacks x w word at does (Some own) trap e misses = with-data-lacks x w own word at does (reached x own) trap refl e misses
+
+executes-lacks : (x : Sight) (w : Wanted) (word : ℕ) (at : Reached) (r : Result Effect Exception) (trap : Trap) → executes x word at r ≡ Err trap → missed_access trap ≡ Some w → Lacks x w
+executes-lacks x w word at (Err exception) trap e misses = absurd (none (sym (ap missed_access (trap-same (Raised exception) trap e)) ∙ refl))
+  where
+    none : missed_access trap ≡ None → ⊥
+    none n = cc
+executes-lacks x w word at (Ok does) trap e misses = accesses-lacks x w word at does (wanted does.request) trap e misses
+
+decodes-lacks : (x : Sight) (w : Wanted) (regs : Regs) (at : Reached) (word : ℕ) (trap : Trap) → decodes x regs at word ≡ Err trap → missed_access trap ≡ Some w → Lacks x w
+decodes-lacks x w regs at word trap e misses = by (is_privileged word) e
+  where
+    by : (b : Bool) → (if b then Err (Privileged word) else executes x word at (effect (decoded word) regs)) ≡ Err trap → Lacks x w
+    by true e = absurd (let n : missed_access trap ≡ None = sym (ap missed_access (trap-same (Privileged word) trap e)) in none n)
+      where
+        none : missed_access trap ≡ None → ⊥
+        none n = cc
+    by false e = executes-lacks x w word at (effect (decoded word) regs) trap e misses
+
+fetches-lacks : (x : Sight) (w : Wanted) (pages : List Page) (regs : Regs) (r : Result Reached Lack) (trap : Trap) → reached x (fetch_at regs.pc) ≡ r → fetches x pages regs r ≡ Err trap → missed_access trap ≡ Some w → Lacks x w
+fetches-lacks x w pages regs (Err lack) trap is e misses = fetch-lacks x w (fetch_at regs.pc) lack is (ap missed_access (trap-same (fetch_trap (fetch_at regs.pc) lack) trap e) ∙ misses)
+fetches-lacks x w pages regs (Ok at) trap is e misses = decodes-lacks x w regs at (word_through pages at regs.pc) trap e misses
+
+pub lacks : (x : Sight) (w : Wanted) (pages : List Page) (regs : Regs) (trap : Trap) → hardware_step x pages regs ≡ Err trap → missed_access trap ≡ Some w → Lacks x w
+lacks x w pages regs trap e misses = by x.line e
+  where
+    by : (b : Bool) → (if b then Err Line else fetches x pages regs (reached x (fetch_at regs.pc))) ≡ Err trap → Lacks x w
+    by true e = absurd (let n : missed_access trap ≡ None = sym (ap missed_access (trap-same Line trap e)) in none n)
+      where
+        none : missed_access trap ≡ None → ⊥
+        none n = cc
+    by false e = fetches-lacks x w pages regs (reached x (fetch_at regs.pc)) trap refl e misses
+
+-- what reached no frame for another reason is aligned and in the mode's ranges
+lack-same : (a b : Lack) → ◌≡◌ {A = Result Reached Lack} (Err a) (Err b) → a ≡ b
+lack-same a b e = cc
+
+pub is-aligned : (x : Sight) (w : Wanted) → Lacks x w → (w.address % w.unit == 0) ≡ true
+is-aligned x w l = by (w.address % w.unit == 0) refl l.reaches
+  where
+    by : (b : Bool) → (w.address % w.unit == 0) ≡ b → (if b then in_segment x w (segment x.user w.address) else Err NoRange) ≡ Err l.lack → (w.address % w.unit == 0) ≡ true
+    by true is e = is
+    by false is e = absurd (l.ranges (sym (lack-same NoRange l.lack e)))
+
+pub is-in-range : (x : Sight) (w : Wanted) → Lacks x w → segment x.user w.address ≢ Outside
+is-in-range x w l out = by (w.address % w.unit == 0) l.reaches
+  where
+    by : (b : Bool) → (if b then in_segment x w (segment x.user w.address) else Err NoRange) ≡ Err l.lack → ⊥
+    by true e = l.ranges (sym (lack-same NoRange l.lack (ap (in_segment x w) (sym out) ∙ e)))
+    by false e = l.ranges (sym (lack-same NoRange l.lack e))
+
+-- where no frame is lost, no processor traps for one
+lost-through : (x : Sight) (w : Wanted) (h : Option Half) (frame : ℕ) → ((f : ℕ) → x.lost f ≡ false) → through_half x w h ≡ Err (DeadFrame frame) → ⊥
+lost-through x w None frame live e = cc
+lost-through x w (Some h) frame live e = by (is_store w.purpose && not h.writable) (ap (λ (b : Bool). if b then Err (DeadFrame h.frame) else (if is_store w.purpose && not h.writable then Err NoStore else Ok (at_half h))) (sym (live h.frame)) ∙ e)
+  where
+    by : (b : Bool) → (if b then Err NoStore else Ok (at_half h)) ≡ Err (DeadFrame frame) → ⊥
+    by true e = cc
+    by false e = cc
+
+lost-segment : (x : Sight) (w : Wanted) (g : Segment) (frame : ℕ) → ((f : ℕ) → x.lost f ≡ false) → in_segment x w g ≡ Err (DeadFrame frame) → ⊥
+lost-segment x w Mapped frame live e = lost-through x w (find (is_of (w.address / 4096) x.asid) x.tlb) frame live e
+lost-segment x w Direct frame live e = lost-through x w (find (is_of (w.address / 4096) x.asid) x.tlb) frame live e
+lost-segment x w Outside frame live e = cc
+
+lost-reached : (x : Sight) (w : Wanted) (frame : ℕ) → ((f : ℕ) → x.lost f ≡ false) → reached x w ≡ Err (DeadFrame frame) → ⊥
+lost-reached x w frame live e = by (w.address % w.unit == 0) e
+  where
+    by : (b : Bool) → (if b then in_segment x w (segment x.user w.address) else Err NoRange) ≡ Err (DeadFrame frame) → ⊥
+    by true e = lost-segment x w (segment x.user w.address) frame live e
+    by false e = cc
+
+lost-fetch : (x : Sight) (own w : Wanted) (lack : Lack) (frame : ℕ) → ((f : ℕ) → x.lost f ≡ false) → reached x own ≡ Err lack → fetch_trap own lack ≡ Dead frame w → ⊥
+lost-fetch x own w NoRange frame live is e = cc
+lost-fetch x own w NoHalf frame live is e = cc
+lost-fetch x own w (DeadFrame f) frame live is e = lost-reached x own f live is
+lost-fetch x own w NoStore frame live is e = cc
+
+lost-data : (x : Sight) (own w : Wanted) (word : ℕ) (r : Result Reached Lack) (at : Reached) (does : Effect) (frame : ℕ) → ((f : ℕ) → x.lost f ≡ false) → reached x own ≡ r → with_data word own at does r ≡ Err (Dead frame w) → ⊥
+lost-data x own w word (Ok to) at does frame live is e = cc
+lost-data x own w word (Err NoRange) at does frame live is e = cc
+lost-data x own w word (Err NoHalf) at does frame live is e = cc
+lost-data x own w word (Err (DeadFrame f)) at does frame live is e = lost-reached x own f live is
+lost-data x own w word (Err NoStore) at does frame live is e = cc
+
+lost-accesses : (x : Sight) (w : Wanted) (word : ℕ) (at : Reached) (does : Effect) (own : Option Wanted) (frame : ℕ) → ((f : ℕ) → x.lost f ≡ false) → accesses x word at does own ≡ Err (Dead frame w) → ⊥
+lost-accesses x w word at does None frame live e = cc
+lost-accesses x w word at does (Some own) frame live e = lost-data x own w word (reached x own) at does frame live refl e
+
+lost-executes : (x : Sight) (w : Wanted) (word : ℕ) (at : Reached) (r : Result Effect Exception) (frame : ℕ) → ((f : ℕ) → x.lost f ≡ false) → executes x word at r ≡ Err (Dead frame w) → ⊥
+lost-executes x w word at (Err exception) frame live e = cc
+lost-executes x w word at (Ok does) frame live e = lost-accesses x w word at does (wanted does.request) frame live e
+
+lost-decodes : (x : Sight) (w : Wanted) (regs : Regs) (at : Reached) (word frame : ℕ) → ((f : ℕ) → x.lost f ≡ false) → decodes x regs at word ≡ Err (Dead frame w) → ⊥
+lost-decodes x w regs at word frame live e = by (is_privileged word) e
+  where
+    by : (b : Bool) → (if b then Err (Privileged word) else executes x word at (effect (decoded word) regs)) ≡ Err (Dead frame w) → ⊥
+    by true e = cc
+    by false e = lost-executes x w word at (effect (decoded word) regs) frame live e
+
+lost-fetches : (x : Sight) (w : Wanted) (pages : List Page) (regs : Regs) (r : Result Reached Lack) (frame : ℕ) → ((f : ℕ) → x.lost f ≡ false) → reached x (fetch_at regs.pc) ≡ r → fetches x pages regs r ≡ Err (Dead frame w) → ⊥
+lost-fetches x w pages regs (Err lack) frame live is e = lost-fetch x (fetch_at regs.pc) w lack frame live is (trap-same (fetch_trap (fetch_at regs.pc) lack) (Dead frame w) e)
+lost-fetches x w pages regs (Ok at) frame live is e = lost-decodes x w regs at (word_through pages at regs.pc) frame live e
+
+pub never-dead : (x : Sight) (pages : List Page) (regs : Regs) (frame : ℕ) (w : Wanted) → ((f : ℕ) → x.lost f ≡ false) → hardware_step x pages regs ≡ Err (Dead frame w) → ⊥
+never-dead x pages regs frame w live e = by x.line e
+  where
+    by : (b : Bool) → (if b then Err Line else fetches x pages regs (reached x (fetch_at regs.pc))) ≡ Err (Dead frame w) → ⊥
+    by true e = cc
+    by false e = lost-fetches x w pages regs (reached x (fetch_at regs.pc)) frame live refl e
