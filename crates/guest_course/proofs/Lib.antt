@@ -15,3 +15,5 @@ pub mod FillProofs
 pub mod TrapLemmas
 pub mod RefillProofs
 pub mod EmulateProofs
+pub mod BootProofs
+pub mod ReadyLemmas

@@ -8,4 +8,6 @@ pub mod LoadCalls
 pub mod Granting
 pub mod RefillCalls
 pub mod EmulateCalls
+pub mod BootCalls
+pub mod EntryCalls
 pub mod Executed

@@ -1,21 +1,25 @@
 //! A guest whose pages lie on frames: what is kept of it, and its steps through the TLBs of processors.
 #![tactic(auto)]
 
+mod booting;
 mod bus;
 mod course;
 mod direct;
 mod emulating;
+mod entering;
 mod granting;
 mod hardware;
 mod loading;
 mod noting;
 mod place;
+mod readiness;
 mod refilling;
 mod site;
 mod stepping;
 
 pub use course::Course;
 pub use emulating::Emulation;
+pub use entering::Entry;
 pub use place::{Place, Wish};
 pub use refilling::Refill;
 pub use site::{Around, Site};
