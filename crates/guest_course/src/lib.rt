@@ -23,3 +23,6 @@ pub use entering::Entry;
 pub use place::{Place, Wish};
 pub use refilling::Refill;
 pub use site::{Around, Site};
+
+#[cfg(test)]
+mod tests;

@@ -1,5 +1,5 @@
-//! Whether a processor may act for a guest.
-ghost use Rattle.std.specs.Prelude.{◌≡◌, ◌<◌, ℕ, IfSome, IfNone, length};
+//! Whether a processor may act for a guest, and with room for what it may print or send.
+ghost use Rattle.std.specs.Prelude.{◌≡◌, ◌<◌, ℕ, IfSome, IfNone, OnOk, length};
 ghost use Rattle.isolation_law.specs.Phases.{all_halted, lets_act};
 ghost use Rattle.guest_course.specs.CourseView.{due_of, state_of};
 ghost use Rattle.guest_course.specs.CourseRules.{IsSound};
@@ -8,8 +8,23 @@ ghost use Rattle.guest_course.specs.StepCalls.{MayStep};
 use crate::course::Course;
 use crate::place::Wish;
 use base_words::{ProcId, VcpuId};
+use std::alloc::AllocError;
 
 impl Course {
+    /// Makes room for one byte on the console and for one packet. The guest stays as it is.
+    #[inline]
+    pub fn reserve(&mut self) -> Result<(), AllocError>
+        requires { IsSound self.old }
+        ensures sound { IsSound self.new }
+        ensures state { state_of self.new ≡ state_of self.old }
+        ensures print_room { OnOk result (0 < self.new.devs.print_room) }
+        ensures send_room { OnOk result (0 < self.new.devs.send_room) }
+        ensures places { self.new.places ≡ self.old.places }
+        ensures room { self.new.pmap.room ≡ self.old.pmap.room }
+    {
+        self.devs.reserve()
+    }
+
     /// Whether all virtual processors have halted.
     #[inline]
     pub fn has_halted(&self) -> bool
