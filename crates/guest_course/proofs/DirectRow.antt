@@ -30,7 +30,7 @@ joined-devices : (m : PrivateMachine) (v : ℕ) → (joined m v).devices ≡ joi
 joined-devices m v = elim (v == 0) as (λ b. (if b then input_joined m else m).devices ≡ joined_if b m.vcpus m.devices) [ true ↦ refl | false ↦ refl ]
 
 -- no frame is lost while no cell is
-none-dead : (k : ℕ) → get_or no_cells k false ≡ false
+pub none-dead : (k : ℕ) → get_or no_cells k false ≡ false
 none-dead zero = refl
 none-dead (suc zero) = refl
 none-dead (suc (suc zero)) = refl

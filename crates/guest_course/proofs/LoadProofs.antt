@@ -17,9 +17,10 @@ use Rattle.guest_course.specs.CourseView.{surroundings, processor_of, due_of, st
 use Rattle.guest_course.specs.CourseRules.{IsSound, StandsAt}
 use Rattle.guest_course.specs.Rebacking.{AllPlain, Rebacked}
 use Rattle.guest_course.specs.LoadCalls.{MayLoad, MayUnload}
+use Rattle.guest_course.proofs.DirectRow.{none-dead}
 use Rattle.guest_course.proofs.NotingLemmas.{stands}
 use Rattle.guest_course.proofs.PlaceLemmas.{loaded-below}
-use Rattle.guest_course.proofs.RebackLemmas.{sound-rebacked, stands-set, processor-at, loaded-set, none-dead}
+use Rattle.guest_course.proofs.RebackLemmas.{sound-rebacked, stands-set, processor-at, loaded-set}
 
 below : (c : Course) (p : ℕ) → p < length (state_of c).processors → p < length c.places.items
 below c p lt = subst (λ (k : ℕ). p < k) (length-map c.places.items processor_of) lt

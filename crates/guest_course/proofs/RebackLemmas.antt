@@ -1,11 +1,10 @@
 -- A guest after a change of what backs it: processors, pages, second-level entries and choices that are due.
-use Rattle.std.proofs.Common.{◌≡◌, ◌⊎◌, inl, inr, ◌+◌, ℕ, false, zero, suc, ◌<◌, ◌≤◌, List, [], ◌∷◌, Some, None, length, map, get_or, set, refl, sym, ap, ◌∙◌, subst, arith}
+use Rattle.std.proofs.Common.{◌≡◌, ◌⊎◌, inl, inr, ◌+◌, ℕ, zero, suc, ◌<◌, ◌≤◌, List, [], ◌∷◌, Some, None, length, map, get_or, set, refl, sym, ap, ◌∙◌, subst, arith}
 use Rattle.std.specs.Global.{Vec}
 use Rattle.base_words.specs.Halves.{Half}
 use Rattle.isolation_law.specs.Surroundings.{Surroundings}
 use Rattle.isolation_law.specs.Parts.{Processor}
 use Rattle.isolation_law.specs.GuestState.{idle, processor}
-use Rattle.isolation_law.specs.Start.{no_cells}
 use Rattle.isolation_law.specs.Coherence.{Coherent}
 use Rattle.guest_course.specs.declared.place.Place.{Place}
 use Rattle.guest_course.specs.declared.course.Course.{Course}
@@ -65,14 +64,6 @@ loaded-set (y ∷ ps) zero zero u new is = inl is
 loaded-set (y ∷ ps) zero (suc r) u new is = inr is
 loaded-set (y ∷ ps) (suc p) zero u new is = inr is
 loaded-set (y ∷ ps) (suc p) (suc r) u new is = loaded-set ps p r u new is
-
--- no cell has failed
-pub none-dead : (k : ℕ) → get_or no_cells k false ≡ false
-none-dead zero = refl
-none-dead (suc zero) = refl
-none-dead (suc (suc zero)) = refl
-none-dead (suc (suc (suc zero))) = refl
-none-dead (suc (suc (suc (suc k)))) = refl
 
 -- another TLB of a processor leaves what is loaded
 pub loaded-elsewhere : (ps : List Processor) (p r : ℕ) (tlb : List Half) → (get_or (set ps p (record (get_or ps p idle) { tlb = tlb })) r idle).loaded ≡ (get_or ps r idle).loaded
