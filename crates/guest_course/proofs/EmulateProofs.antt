@@ -187,7 +187,7 @@ drop-rebacked c d p v pair lt all f =
 pub loaded-dropped : (s : GuestState) (p v r pair : ℕ) → (processor (pair_dropped p v pair s) r).loaded ≡ (processor s r).loaded
 loaded-dropped s p v r pair = loaded-elsewhere s.processors p r (without_pair pair (processor s p).tlb)
 
-is-emulated : (s : GuestState) (p v : ℕ) (cause : TrapCause) → MayStep s p v → IsDenied s p v cause → IsEmulated s p v
+pub is-emulated : (s : GuestState) (p v : ℕ) (cause : TrapCause) → MayStep s p v → IsDenied s p v cause → IsEmulated s p v
 is-emulated s p v cause may d = record { goes_on = may.goes_on; runs = may.runs; may_act = may.may_act; trap = d.why.trap; traps = d.why.traps; is_no_access = d.denied }
 
 -- the state after a step that the monitor made

@@ -17,3 +17,5 @@ pub mod RefillProofs
 pub mod EmulateProofs
 pub mod BootProofs
 pub mod ReadyLemmas
+pub mod EndProofs
+pub mod LeaveProofs

@@ -127,7 +127,7 @@ note-within c d p v access m reach =
 length-lined : (v : ℕ) (waits : Bool) (cs : List Vcpu) → length (lined v waits cs) ≡ length cs
 length-lined v waits cs = elim (v == 0) as (λ b. length (lined_if b waits cs) ≡ length cs) [ true ↦ length-set cs 0 (with_line_on 2 waits (get_or cs 0 no_vcpu)) | false ↦ refl ]
 
-transfers-joined : (v : ℕ) (cs : List Vcpu) (page : DevicePage) → (joined_page v cs page).transfers ≡ page.transfers
+pub transfers-joined : (v : ℕ) (cs : List Vcpu) (page : DevicePage) → (joined_page v cs page).transfers ≡ page.transfers
 transfers-joined v cs page = elim (v == 0) as (λ b. (joined_if b cs page).transfers ≡ page.transfers) [ true ↦ refl | false ↦ refl ]
 
 vcpus-count : (c d : Course) (p v : ℕ) (access : Access) → Made c d p v access → length d.vcpus.items ≡ length c.vcpus.items

@@ -10,4 +10,5 @@ pub mod RefillCalls
 pub mod EmulateCalls
 pub mod BootCalls
 pub mod EntryCalls
+pub mod LeavingCalls
 pub mod Executed

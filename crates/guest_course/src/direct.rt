@@ -46,6 +46,7 @@ impl Course {
         ensures print_room { self.new.devs.print_room ≡ self.old.devs.print_room }
         ensures send_room { self.new.devs.send_room ≡ self.old.devs.send_room }
         ensures room { self.new.pmap.room ≡ self.old.pmap.room }
+        ensures cells { self.new.sent_from ≡ self.old.sent_from }
     {
         row_keeps();
         steps_reach_pages();

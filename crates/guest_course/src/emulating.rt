@@ -63,6 +63,7 @@ impl Course {
         ensures dropped { state_of self.new ≡ pair_dropped processor.0 vcpu.0 pair (state_of self.old) }
         ensures rebacked { Rebacked self.old self.new }
         ensures room { self.new.pmap.room ≡ self.old.pmap.room }
+        ensures cells { self.new.sent_from ≡ self.old.sent_from }
     {
         self.places[processor.0 as usize].tlb.drop_pair(pair);
         self.seconds[vcpu.0 as usize].drop_pair(pair);
@@ -76,6 +77,7 @@ impl Course {
         ensures dropped { state_of self.new ≡ written_dropped processor.0 vcpu.0 written (state_of self.old) }
         ensures rebacked { Rebacked self.old self.new }
         ensures room { self.new.pmap.room ≡ self.old.pmap.room }
+        ensures cells { self.new.sent_from ≡ self.old.sent_from }
     {
         if let Some(write) = written {
             self.drop_pair(processor, vcpu, write.old_pair);
@@ -96,6 +98,7 @@ impl Course {
         ensures print_room { self.old.devs.print_room ≤ self.new.devs.print_room + 1 }
         ensures send_room { self.new.devs.send_room ≡ self.old.devs.send_room }
         ensures room { self.new.pmap.room ≡ self.old.pmap.room }
+        ensures cells { self.new.sent_from ≡ self.old.sent_from }
     {
         row_keeps();
         traps_hold();

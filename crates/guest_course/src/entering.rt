@@ -3,7 +3,7 @@ ghost use Rattle.std.specs.Prelude.{◌≡◌, ◌<◌, ◌≤◌, ◌+◌};
 ghost use Rattle.guest_course.specs.CourseView.{state_of};
 ghost use Rattle.guest_course.specs.CourseRules.{IsSound};
 ghost use Rattle.guest_course.specs.StepCalls.{MayStep, TrapsFor};
-ghost use Rattle.guest_course.specs.EntryCalls.{Enters};
+ghost use Rattle.guest_course.specs.EntryCalls.{Enters, GoesOnAfter};
 
 use crate::course::Course;
 use crate::emulating::Emulation;
@@ -35,9 +35,11 @@ impl Course {
         requires room { 0 < self.old.devs.print_room }
         ensures sound { IsSound self.new }
         ensures enters { Enters (state_of self.old) processor.0 vcpu.0 (state_of self.new) result }
+        ensures goes_on { GoesOnAfter result (state_of self.new) }
         ensures print_room { self.old.devs.print_room ≤ self.new.devs.print_room + 1 }
         ensures send_room { self.new.devs.send_room ≡ self.old.devs.send_room }
         ensures room { self.new.pmap.room ≡ self.old.pmap.room }
+        ensures cells { self.new.sent_from ≡ self.old.sent_from }
     {
         match self.refill(processor, vcpu, cause) {
             Refill::Filled => Entry::Refill,
@@ -56,9 +58,11 @@ impl Course {
         requires room { 0 < self.old.devs.print_room }
         ensures sound { IsSound self.new }
         ensures enters { Enters (state_of self.old) processor.0 vcpu.0 (state_of self.new) result }
+        ensures goes_on { GoesOnAfter result (state_of self.new) }
         ensures print_room { self.old.devs.print_room ≤ self.new.devs.print_room + 1 }
         ensures send_room { self.new.devs.send_room ≡ self.old.devs.send_room }
         ensures room { self.new.pmap.room ≡ self.old.pmap.room }
+        ensures cells { self.new.sent_from ≡ self.old.sent_from }
     {
         match self.step(processor, vcpu) {
             HwStep::Direct(access) => Entry::Direct(access),

@@ -1,5 +1,6 @@
 //! Whether a processor may act for a guest, and with room for what it may print or send.
 ghost use Rattle.std.specs.Prelude.{◌≡◌, ◌<◌, ℕ, IfSome, IfNone, OnOk, length};
+ghost use Rattle.std.specs.Vec.{vec_len, vec_capacity};
 ghost use Rattle.isolation_law.specs.Phases.{all_halted, lets_act};
 ghost use Rattle.guest_course.specs.CourseView.{due_of, state_of};
 ghost use Rattle.guest_course.specs.CourseRules.{IsSound};
@@ -11,7 +12,7 @@ use base_words::{ProcId, VcpuId};
 use std::alloc::AllocError;
 
 impl Course {
-    /// Makes room for one byte on the console and for one packet. The guest stays as it is.
+    /// Makes room for one byte on the console and for one packet with its cell. The guest stays as it is.
     #[inline]
     pub fn reserve(&mut self) -> Result<(), AllocError>
         requires { IsSound self.old }
@@ -19,10 +20,12 @@ impl Course {
         ensures state { state_of self.new ≡ state_of self.old }
         ensures print_room { OnOk result (0 < self.new.devs.print_room) }
         ensures send_room { OnOk result (0 < self.new.devs.send_room) }
+        ensures cells { OnOk result (vec_len self.new.sent_from < vec_capacity self.new.sent_from) }
         ensures places { self.new.places ≡ self.old.places }
         ensures room { self.new.pmap.room ≡ self.old.pmap.room }
     {
-        self.devs.reserve()
+        self.devs.reserve()?;
+        self.sent_from.reserve(1)
     }
 
     /// Whether all virtual processors have halted.

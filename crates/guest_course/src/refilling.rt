@@ -76,6 +76,7 @@ impl Course {
         ensures filled { IsFilled (state_of self.old) processor.0 vcpu.0 address granted (state_of self.new) }
         ensures rebacked { Rebacked self.old self.new }
         ensures room { self.new.pmap.room ≡ self.old.pmap.room }
+        ensures cells { self.new.sent_from ≡ self.old.sent_from }
     {
         let asid = self.vcpus[vcpu.0 as usize].cp0.asid();
         let page = granted.page;
@@ -107,6 +108,7 @@ impl Course {
         ensures print_room { self.new.devs.print_room ≡ self.old.devs.print_room }
         ensures send_room { self.new.devs.send_room ≡ self.old.devs.send_room }
         ensures room { self.new.pmap.room ≡ self.old.pmap.room }
+        ensures cells { self.new.sent_from ≡ self.old.sent_from }
     {
         row_keeps();
         traps_tell();

@@ -34,7 +34,7 @@ pub fn is_interrupted(vcpus: &[Vcpu], devs: &Devs, vcpu: VcpuId) -> bool
 
 /// A virtual processor ticks, which shows nothing new.
 #[inline]
-fn tick(vcpus: &mut [Vcpu], vcpu: VcpuId)
+pub fn tick(vcpus: &mut [Vcpu], vcpu: VcpuId)
     requires { vcpu.0 < length vcpus.old }
     ensures ticked { vcpus.new ≡ changed vcpu.0 ticking vcpus.old }
     ensures shown { map shown_by vcpus.new ≡ map shown_by vcpus.old }

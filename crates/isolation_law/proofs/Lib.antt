@@ -46,6 +46,9 @@ mod LiveRuns
 mod CellRuns
 mod IsolationProofs
 mod WorldsProofs
+mod HaltEffects
+mod HaltProofs
+mod LoadedProofs
 mod StartHolds
 mod MovedRun
 mod SharedRun

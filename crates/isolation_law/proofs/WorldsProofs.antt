@@ -74,7 +74,7 @@ own-count s v running =
     ∙ ap length (tlbs-joined (content s) v)
     ∙ length-map s.vcpus (λ c. c.tlb)
 
-row-count : (s t : GuestState) (e : Event) → Row s e t → length t.vcpus ≡ length s.vcpus
+pub row-count : (s t : GuestState) (e : Event) → Row s e t → length t.vcpus ≡ length s.vcpus
 row-count s t (Load p v) row = ap (λ (x : GuestState). length x.vcpus) row.after
 row-count s t (Unload p) row = ap (λ (x : GuestState). length x.vcpus) row.after
 row-count s t (Direct p v) row =

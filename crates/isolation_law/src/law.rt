@@ -1,12 +1,17 @@
 //! The law over all journals.
-ghost use Rattle.std.specs.Prelude.{◌≡◌, List, None};
+ghost use Rattle.std.specs.Prelude.{◌≡◌, ℕ, true, false, List, None, length};
 ghost use Rattle.base_words.specs.declared.events.Event.{Event};
+ghost use Rattle.base_words.specs.declared.events.Event.TheVariants.{Direct, Emulate};
+ghost use Rattle.base_words.specs.declared.ids.ProcId.{ProcId};
+ghost use Rattle.base_words.specs.declared.ids.VcpuId.{VcpuId};
 ghost use Rattle.private_machine.specs.PrivateRun.{private_run};
-ghost use Rattle.isolation_law.specs.GuestState.{GuestState};
+ghost use Rattle.isolation_law.specs.GuestState.{GuestState, processor, vcpu_of};
 ghost use Rattle.isolation_law.specs.Content.{content};
 ghost use Rattle.isolation_law.specs.Coherence.{Coherent};
 ghost use Rattle.isolation_law.specs.LiveCells.{UsesLive};
 ghost use Rattle.isolation_law.specs.OwnHistory.{own};
+ghost use Rattle.isolation_law.specs.LoadsIn.{loaded_after};
+ghost use Rattle.isolation_law.specs.MachineEvent.{Row};
 ghost use Rattle.isolation_law.specs.Phases.{GoesOn};
 ghost use Rattle.isolation_law.specs.Run.{Run};
 ghost use Rattle.isolation_law.specs.Start.{Boot, IsBoot, private_start, start};
@@ -42,4 +47,16 @@ pub fn start_holds()
 pub fn worlds()
     ensures two { TwoWorlds }
     ensures one_vcpu { OneVcpu }
+{}
+
+/// A virtual processor that has halted stays so, whatever entry comes; and no entry is a step of it. No entry adds or takes away
+/// a virtual processor or a processor, and only loads and unloads change what is loaded on one.
+pub fn halts_stay()
+    ensures row { (s t : GuestState) (e : Event) (v : ℕ) → Row s e t → (vcpu_of s v).halted ≡ true → (vcpu_of t v).halted ≡ true }
+    ensures run { (s t : GuestState) (journal : List Event) (v : ℕ) → Run s journal t → (vcpu_of s v).halted ≡ true → (vcpu_of t v).halted ≡ true }
+    ensures no_step { (s t : GuestState) (p : ProcId) (v : VcpuId) → Row s (Direct p v) t → (vcpu_of s v.0).halted ≡ false }
+    ensures no_emulated_step { (s t : GuestState) (p : ProcId) (v : VcpuId) → Row s (Emulate p v) t → (vcpu_of s v.0).halted ≡ false }
+    ensures count { (s t : GuestState) (e : Event) → Row s e t → length t.vcpus ≡ length s.vcpus }
+    ensures processors { (s t : GuestState) (e : Event) → Row s e t → length t.processors ≡ length s.processors }
+    ensures loaded { (s t : GuestState) (e : Event) (r : ℕ) → Row s e t → (processor t r).loaded ≡ loaded_after e r (processor s r).loaded }
 {}

@@ -9,8 +9,8 @@ mod rows;
 
 pub use cells::{cell_failure, ends_by_use, goes_on_alive};
 pub use frames::{exchanges, frames_spread, holdings, starts_held};
-pub use law::{isolation, isolation_from, start_holds, worlds};
+pub use law::{halts_stay, isolation, isolation_from, start_holds, worlds};
 pub use rows::{
-    halves_serve, hand_keeps, read_only_needs, row_keeps, run_grows, second_level_serves,
-    steps_reach_pages, traps_hold, traps_tell,
+    halves_serve, hand_keeps, pages_seen, read_only_needs, row_keeps, run_grows,
+    second_level_serves, steps_reach_pages, traps_hold, traps_tell,
 };

@@ -1,5 +1,6 @@
 //! What one entry keeps and does, and how a run grows by it: for the calls that make entries.
-ghost use Rattle.std.specs.Prelude.{◌≡◌, ◌≢◌, ◌⊎◌, ℕ, ◌/◌, List, [], ◌∷◌, ◌++◌, ◌≤◌, length, true, None, Some, Ok, Err};
+ghost use Rattle.std.specs.Prelude.{◌≡◌, ◌≢◌, ◌⊎◌, ℕ, ◌/◌, List, [], ◌∷◌, ◌++◌, ◌<◌, ◌≤◌, length, take, true, None, Some, Ok, Err};
+ghost use Rattle.private_machine.specs.Links.{page_bytes};
 ghost use Rattle.base_words.specs.declared.events.Event.{Event};
 ghost use Rattle.private_machine.specs.PrivateRun.{private_run};
 ghost use Rattle.base_words.specs.declared.regs.Regs.{Regs};
@@ -81,4 +82,10 @@ pub fn steps_reach_pages()
 /// What a second-level entry says of an address is what the guest's own TLB says.
 pub fn second_level_serves()
     ensures { SecondServes }
+{}
+
+/// A page as the guest sees it is its master's bytes, of which there are 4096.
+pub fn pages_seen()
+    ensures whole { (s : GuestState) (q : ℕ) → Coherent s → q < length s.pages → length (page s q).master.bytes ≡ 4096 }
+    ensures bytes { (s : GuestState) (q count : ℕ) → Coherent s → q < length s.pages → count ≤ 4096 → page_bytes (content s) q count ≡ take count (page s q).master.bytes }
 {}

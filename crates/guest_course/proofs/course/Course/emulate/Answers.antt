@@ -11,7 +11,7 @@ use Rattle.isolation_law.specs.StepRows.{Emulates}
 use Rattle.guest_course.specs.EmulateCalls.{StaysLoaded}
 use Rattle.guest_course.specs.declared.course.Course.{Course}
 use Rattle.guest_course.specs.CourseView.{state_of}
-use Rattle.guest_course.proofs.EmulateProofs.{is-trap, remade, remade-rebacked, sound-remade, loaded-written, loaded-made, makes-row, done-row}
+use Rattle.guest_course.proofs.EmulateProofs.{is-trap, is-emulated, remade, remade-rebacked, sound-remade, loaded-written, loaded-made, makes-row, done-row}
 use Rattle.guest_course.proofs.course.Course.emulate.Goals as goal
 
 pub make-requires-clause-traps : goal.make-requires-clause-traps
@@ -55,12 +55,26 @@ returns-in-Done-clause-sound c =
     (λ r u is. sound.loaded r u (sym ((stays c).loaded r) ∙ is))
     (c.row_keeps.ensures.coherent (state_of old) (state_of c.drop_written.new.self) (Emulate c.args.processor c.args.vcpu) (sound.going on).coherent (inl (row-done c)) ((stays c).end ∙ on))
 
+-- where an act is left nothing has changed
+waits : (c : goal.In-Device) → state_of c.make.new.self ≡ state_of c.args.self.now
+waits c = ap state_of c.make.ensures.same ∙ (λ i. record (state_of c.args.self.now) { vcpus = c.in-Device.ensures.waits.0 i; devices = (c.in-Device.ensures.waits.1 i).state.page })
+
+pub returns-in-Device-clause-comes : goal.returns-in-Device-clause-comes
+returns-in-Device-clause-comes c =
+    let s = state_of c.args.self.now in
+    record {
+      traps = is-emulated s c.args.processor.0 c.args.vcpu.0 c.args.cause c.requires.may c.requires.denied;
+      defers = c.in-Device.ensures.does;
+      same = waits c;
+    }
+
 pub returns-in-Device-clause-sound : goal.returns-in-Device-clause-sound
+unfolding waits
 returns-in-Device-clause-sound c =
     let old = c.args.self.now in
     let sound = c.requires.sound in
     let on = c.requires.may.goes_on.not_ended in
-    let same : state_of c.make.new.self ≡ state_of old = ap state_of c.make.ensures.same ∙ (λ i. record (state_of old) { vcpus = c.in-Device.ensures.waits.0 i; devices = (c.in-Device.ensures.waits.1 i).state.page }) in
+    let same = waits c in
     sound-remade old c.make.new.self sound on (remade old c.make.new.self c.make.ensures.same c.make.ensures.long c.make.ensures.fits sound.places)
     (λ r u is. sound.loaded r u (sym (loaded-made old c.make.new.self c.make.ensures.same r) ∙ is))
     (subst Coherent (sym same) (sound.going on).coherent)
