@@ -39,13 +39,8 @@ refused_key-never : (alone : Bool) (k : Option UnbuiltKey) → NeverReads (refus
 refused_key-never alone None = tt
 refused_key-never true (Some (key.Disk guest)) = tt
 refused_key-never false (Some (key.Disk guest)) = tt
-refused_key-never true (Some key.Input) = tt
-refused_key-never false (Some key.Input) = tt
 refused_key-never alone (Some key.Nodes) = tt
-refused_key-never alone (Some key.Processors) = tt
 refused_key-never alone (Some key.Cache) = tt
-refused_key-never alone (Some key.Guests) = tt
-refused_key-never alone (Some (key.Vcpus guest)) = tt
 refused_key-never alone (Some key.Migrate) = tt
 refused_key-never alone (Some key.Replicate) = tt
 refused_key-never alone (Some (key.Act item)) = tt

@@ -10,11 +10,12 @@ use Rattle.elf_image.specs.FirstFault.{first_of, needs, short, magic, class, ord
 use Rattle.elf_image.specs.Loading.{raw_fault}
 use Rattle.elf_image.specs.Segments.{is_cut, is_outside, shares_byte}
 use Rattle.machine_desc.specs.declared.fault.DescFault.{DescFault}
+use Rattle.machine_desc.specs.declared.fault.DescFault.TheVariants as description
 use Rattle.machine_desc.specs.declared.machine.GuestSpec.{GuestSpec}
 use Rattle.machine_desc.specs.Described.{Described, description_of}
 use Rattle.machine_desc.proofs.NameFaults.{description_of-told}
 use Rattle.admission.specs.declared.faults.Fault.{Fault}
-use Rattle.admission.specs.declared.faults.Fault.TheVariants.{Long, Description, Admission}
+use Rattle.admission.specs.declared.faults.Fault.TheVariants.{Words, Read, Long, Description, BadImage, Unbuilt, Admission}
 use Rattle.admission.specs.declared.faults.UnbuiltKey.{UnbuiltKey}
 use Rattle.admission.specs.declared.faults.UnbuiltKey.TheVariants as key
 use Rattle.admission.specs.Words.{Form, Raw, Machine, Private, form_of}
@@ -115,10 +116,29 @@ raw_fault-tells file pages = first_of-tells (needs (length file % 4 == 0) image.
 
 -- ---- stages
 
--- no refusal of a stage is want of memory
+-- a refusal of what comes behind the words
+abbrev TellsBehind : Fault → Type 0
+TellsBehind Words = ⊥
+TellsBehind (Read name) = Unit {0}
+TellsBehind (Long name) = Unit {0}
+TellsBehind (Description fault) = fault ≢ description.Memory
+TellsBehind (BadImage guest fault) = fault ≢ image.Memory
+TellsBehind (Unbuilt key) = Unit {0}
+TellsBehind (Admission guest needs has) = Unit {0}
+
+tells_behind : (fault : Fault) → TellsBehind fault → Tells fault
+tells_behind Words tells = absurd tells
+tells_behind (Read name) tells = tt
+tells_behind (Long name) tells = tt
+tells_behind (Description fault) tells = tells
+tells_behind (BadImage guest fault) tells = tells
+tells_behind (Unbuilt key) tells = tt
+tells_behind (Admission guest needs has) tells = tt
+
+-- no refusal of a stage is want of memory, or the words'
 abbrev AlwaysTells : {A : Type 0} → Result A Fault → Type 0
 AlwaysTells (Ok x) = Unit {0}
-AlwaysTells (Err fault) = Tells fault
+AlwaysTells (Err fault) = TellsBehind fault
 
 then-tells : {A B : Type 0} (r : Result A Fault) (next : A → Result B Fault) → AlwaysTells r → ((x : A) → AlwaysTells (next x)) → AlwaysTells (r >>= next)
 then-tells (Ok x) next first last = last x
@@ -162,13 +182,8 @@ refused_key-tells : (alone : Bool) (k : Option UnbuiltKey) → AlwaysTells (refu
 refused_key-tells alone None = tt
 refused_key-tells true (Some (key.Disk guest)) = tt
 refused_key-tells false (Some (key.Disk guest)) = tt
-refused_key-tells true (Some key.Input) = tt
-refused_key-tells false (Some key.Input) = tt
 refused_key-tells alone (Some key.Nodes) = tt
-refused_key-tells alone (Some key.Processors) = tt
 refused_key-tells alone (Some key.Cache) = tt
-refused_key-tells alone (Some key.Guests) = tt
-refused_key-tells alone (Some (key.Vcpus guest)) = tt
 refused_key-tells alone (Some key.Migrate) = tt
 refused_key-tells alone (Some key.Replicate) = tt
 refused_key-tells alone (Some (key.Act item)) = tt
@@ -207,9 +222,17 @@ job_by-tells files (Raw file steps) = raw_job-tells files file steps
 job_by-tells files (Machine file) = described_job-tells false files file
 job_by-tells files (Private file) = described_job-tells true files file
 
-known_form-tells : (form : Option Form) → AlwaysTells (known_form form)
-known_form-tells None = tt
-known_form-tells (Some form) = tt
+told_by : (files : Files) (form : Option Form) (fault : Fault) → (known_form form >>= job_by files) ≡ Err fault → Tells fault
+told_by files None fault is = let same : Words ≡ fault = cc in subst Tells same tt
+told_by files (Some form) fault is = tells_behind fault (subst AlwaysTells is (job_by-tells files form))
 
 pub job_of-told : (words : List (List ℕ)) (files : Files) (fault : Fault) → job_of words files ≡ Err fault → Tells fault
-job_of-told words files fault is = subst AlwaysTells is (then-tells (known_form (form_of words)) _ (known_form-tells (form_of words)) (job_by-tells files))
+job_of-told words files fault is = told_by files (form_of words) fault is
+
+words_by : (files : Files) (form : Option Form) → (known_form form >>= job_by files) ≡ Err Words → form ≡ None
+words_by files None is = refl
+words_by files (Some form) is = absurd (let no : ⊥ = subst AlwaysTells is (job_by-tells files form) in no)
+
+-- the words are refused only where they are no form
+pub job_of-words : (words : List (List ℕ)) (files : Files) → job_of words files ≡ Err Words → form_of words ≡ None
+job_of-words words files is = words_by files (form_of words) is

@@ -1,5 +1,7 @@
 -- Jobs that are ready.
-use Rattle.std.proofs.Common.{◌≡◌, Bool, true, false, if◌then◌else◌, Option, Some, None, Result, Ok, Err, refl}
+use Rattle.std.proofs.Common.{◌≡◌, ◌≤◌, Bool, true, false, if◌then◌else◌, Option, Some, None, Result, Ok, Err, refl}
+use Rattle.std.specs.Prelude.{sum_by}
+use Rattle.machine_desc.specs.declared.machine.GuestSpec.{GuestSpec}
 use Rattle.machine_desc.specs.Described.{Described, described_seen}
 use Rattle.admission.specs.declared.faults.Fault.{Fault}
 use Rattle.admission.specs.declared.faults.UnbuiltKey.{UnbuiltKey}
@@ -12,17 +14,14 @@ use Rattle.admission.specs.Unbuilt.{unbuilt, refused_key}
 use Rattle.admission.specs.Jobs.{checks, job_from}
 use Rattle.admission.specs.Views.{job_seen, starts_of}
 use Rattle.admission.specs.Ready.{IsSetup, IsReady}
+use Rattle.admission.proofs.StartLemmas.{fits_from-fits}
 
 -- under the monitor only what has no key passes
 no_key : (k : Option UnbuiltKey) → refused_key false k ≡ Ok tt → k ≡ None
 no_key None is = refl
 no_key (Some (key.Disk guest)) is = absurd (cc)
-no_key (Some key.Input) is = absurd (cc)
 no_key (Some key.Nodes) is = absurd (cc)
-no_key (Some key.Processors) is = absurd (cc)
 no_key (Some key.Cache) is = absurd (cc)
-no_key (Some key.Guests) is = absurd (cc)
-no_key (Some (key.Vcpus guest)) is = absurd (cc)
 no_key (Some key.Migrate) is = absurd (cc)
 no_key (Some key.Replicate) is = absurd (cc)
 no_key (Some (key.Act item)) is = absurd (cc)
@@ -34,6 +33,14 @@ first_passed (Err fault) next is = absurd (cc)
 -- what passes the checks is built
 pub checks-built : (d : Described) → checks false d ≡ Ok tt → unbuilt d ≡ None
 checks-built d is = no_key (unbuilt d) (first_passed (refused_key false (unbuilt d)) _ is)
+
+-- and fits
+second_passed : (r next : Result (Unit {0}) Fault) → (r >>= λ _. next) ≡ Ok tt → next ≡ Ok tt
+second_passed (Ok done) next is = is
+second_passed (Err fault) next is = absurd (cc)
+
+pub checks-fits : (alone : Bool) (d : Described) → checks alone d ≡ Ok tt → sum_by (λ (spec : GuestSpec). spec.pages) d.guests ≤ d.frames
+checks-fits alone d is = fits_from-fits d.frames 0 d.guests (second_passed (refused_key alone (unbuilt d)) _ is)
 
 -- a setup that passes them is ready
 pub IsReady-from : (alone : Bool) (setup : Setup) → IsSetup setup → checks alone (described_seen setup.machine setup.plan) ≡ Ok tt

@@ -2,6 +2,7 @@ pub mod Numbers
 pub mod Words
 pub mod Chain
 pub mod Starts
+pub mod Started
 pub mod Unbuilt
 pub mod Jobs
 pub mod Stages

@@ -1,6 +1,5 @@
 -- What a description may ask for, and isn't built yet.
-use Rattle.std.specs.Prelude.{◌==◌, nat_le, nat_lt, not, List, [], ◌∷◌, ◌++◌, length, Bool, true, false, if◌then◌else◌, Option, Some, None, option_map, is_some, position, Result, Ok, Err}
-use Rattle.base_words.specs.declared.input.InputEntry.{InputEntry}
+use Rattle.std.specs.Prelude.{◌==◌, nat_le, not, List, [], ◌∷◌, ◌++◌, Bool, true, false, if◌then◌else◌, Option, Some, None, option_map, is_some, position, Result, Ok, Err}
 use Rattle.base_words.specs.declared.moves.Policy.{Policy}
 use Rattle.machine_desc.specs.declared.machine.GuestSpec.{GuestSpec}
 use Rattle.machine_desc.specs.declared.plan.Item.{Item}
@@ -24,12 +23,9 @@ is_run (Run processor guest vcpu steps) = true
 is_run (Move processor guest page kind node) = false
 is_run (Fail processor cell) = false
 
--- the least guest with more than one virtual processor, and the least with a disk
+-- the least guest with a disk
 abbrev pub guest_keys : List GuestSpec → List (Option UnbuiltKey)
-guest_keys guests =
-    option_map (λ guest. key.Vcpus guest) (position (λ spec. nat_lt 1 spec.vcpus) guests)
-    ∷ option_map (λ guest. key.Disk guest) (position (λ spec. is_some spec.disk) guests)
-    ∷ []
+guest_keys guests = option_map (λ guest. key.Disk guest) (position (λ spec. is_some spec.disk) guests) ∷ []
 
 abbrev pub policy_keys : Policy → List (Option UnbuiltKey)
 policy_keys policy = unless (policy.migrate == 0) key.Migrate ∷ unless (policy.replicate == 0) key.Replicate ∷ []
@@ -38,22 +34,15 @@ policy_keys policy = unless (policy.migrate == 0) key.Migrate ∷ unless (policy
 abbrev pub work_keys : List Item → List (Option UnbuiltKey)
 work_keys items = option_map (λ item. key.Act item) (position (λ item. not (is_run item)) items) ∷ []
 
--- input, which no guest under the monitor takes yet
-abbrev pub input_keys : List (List InputEntry) → List (Option UnbuiltKey)
-input_keys input = option_map (λ guest. key.Input) (position (λ list. nat_lt 0 (length list)) input) ∷ []
-
 -- the first key of this list that holds
 unfoldable pub unbuilt : Described → Option UnbuiltKey
 unbuilt d = first_key (
     unless (nat_le d.nodes 1) key.Nodes
-    ∷ unless (nat_le (length d.processors) 1) key.Processors
     ∷ unless (d.cache == 0) key.Cache
-    ∷ unless (nat_le (length d.guests) 1) key.Guests
-    ∷ guest_keys d.guests ++ (policy_keys d.policy ++ (work_keys d.items ++ input_keys d.input)))
+    ∷ guest_keys d.guests ++ (policy_keys d.policy ++ work_keys d.items))
 
--- a guest alone has its disk and its input, so such a key is passed over, with all that come after it
+-- a guest alone has its disk, so such a key is passed over, with all that come after it
 abbrev pub refused_key : Bool → Option UnbuiltKey → Result (Unit {0}) Fault
 refused_key alone None = Ok tt
 refused_key alone (Some (key.Disk guest)) = if alone then Ok tt else Err (Unbuilt (key.Disk guest))
-refused_key alone (Some key.Input) = if alone then Ok tt else Err (Unbuilt key.Input)
 refused_key alone (Some key) = Err (Unbuilt key)

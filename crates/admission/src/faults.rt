@@ -13,14 +13,8 @@ use thiserror::Error;
 pub enum UnbuiltKey {
     /// More nodes than one.
     Nodes,
-    /// More processors than one.
-    Processors,
     /// An index of shared blocks.
     Cache,
-    /// More guests than one.
-    Guests,
-    /// More virtual processors of a guest than one.
-    Vcpus(usize),
     /// A guest's disk.
     Disk(usize),
     /// Migration by the policy.
@@ -29,8 +23,6 @@ pub enum UnbuiltKey {
     Replicate,
     /// Work that is no run.
     Act(usize),
-    /// Input, which no guest under the monitor takes yet.
-    Input,
 }
 
 /// Why a job is refused.

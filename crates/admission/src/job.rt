@@ -4,9 +4,10 @@ ghost use Rattle.admission.specs.declared.setup.Job.TheVariants.{Monitored, Alon
 ghost use Rattle.machine_desc.specs.Accepted.{IsDescribed};
 ghost use Rattle.machine_desc.specs.Described.{described_seen};
 ghost use Rattle.admission.specs.Chain.{Files};
-ghost use Rattle.admission.specs.Jobs.{checks, job_from, checked as checked_by, guests_of as guests_by, described_job as described_by, raw_from, raw_checked as raw_checked_by, raw_job as raw_by, job_by as job_of_form, job_of};
+ghost use Rattle.admission.specs.Jobs.{checks, job_from, checked as checked_by, guests_of as guests_by, described_job as described_by, raw_guest, raw_from, raw_checked as raw_checked_by, raw_job as raw_by, job_by as job_of_form, job_of};
 ghost use Rattle.admission.specs.Ready.{IsReady, IsSetup, ReadsAs};
 ghost use Rattle.admission.specs.Stages.{Stage, Gives, seen};
+ghost use Rattle.admission.specs.Started.{IsStarted, AreStarted};
 ghost use Rattle.admission.specs.Views.{AreAsMany, image_seen, starts_seen, starts_of, job_seen};
 ghost use Rattle.admission.specs.Words.{texts, form_seen, IsFew};
 
@@ -74,6 +75,7 @@ fn checked(
 ) -> Result<Job, Refusal>
     requires described { IsDescribed machine plan }
     requires count { AreAsMany (length machine.guests) starts }
+    requires started { AreStarted machine.guests (starts_seen files.now starts) }
     ensures ready { IfOk result IsReady }
     ensures gives { Gives (seen job_seen result) (checked_by alone (described_seen machine plan) (starts_seen files.now starts)) }
 {
@@ -126,7 +128,8 @@ fn described_job<S: Shelf>(
 
 /// The job of one raw guest from its image.
 fn raw_setup(alloc: Global, image: Image, steps: u64) -> Result<Job, AllocError>
-    requires { steps ≤ 16000000 }
+    requires few { steps ≤ 16000000 }
+    requires started { IsStarted raw_guest (record { image = image_seen image; disk = [] }) }
     ensures ready { IfOk result IsReady }
     ensures job { IfOk result (λ job. job_seen job ≡ raw_from steps (image_seen image)) }
 {

@@ -1,6 +1,7 @@
 //! What the definitions say of words and of refusals.
 ghost use Rattle.std.specs.Prelude.{◌≡◌, ℕ, List, [], ◌∷◌, codes, Some, None, Err};
 ghost use Rattle.admission.specs.declared.faults.Fault.{Fault};
+ghost use Rattle.admission.specs.declared.faults.Fault.TheVariants.{Words};
 ghost use Rattle.admission.specs.Chain.{Files};
 ghost use Rattle.admission.specs.Jobs.{job_of};
 ghost use Rattle.admission.specs.Steady.{IsSteady};
@@ -24,9 +25,10 @@ pub fn examples()
     ensures help { form_of (codes "--help" ∷ []) ≡ None }
 {}
 
-/// No refusal is want of memory.
+/// No refusal is want of memory; and the words are refused only where they are none of the forms.
 pub fn told()
-    ensures { (words : List (List ℕ)) (files : Files) (fault : Fault) → job_of words files ≡ Err fault → Tells fault }
+    ensures tells { (words : List (List ℕ)) (files : Files) (fault : Fault) → job_of words files ≡ Err fault → Tells fault }
+    ensures words { (words : List (List ℕ)) (files : Files) → job_of words files ≡ Err Words → form_of words ≡ None }
 {}
 
 /// What some files ask for stays where more are known, and so does a failed read, where its file isn't among them.

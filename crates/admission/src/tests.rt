@@ -373,38 +373,27 @@ const INPUT: Change<'static> = (
     "steps = 5\n[[input]]\nguest = 0\nat = 0\ntext = \"x\"",
 );
 
+/// A second guest, and a second virtual processor of each.
+const GUESTS: Change<'static> = (
+    "[[guest]]",
+    "[[guest]]\nimage = \"a.raw\"\nform = \"raw\"\npages = 1\nvcpus = 2\nnode = 0\n[[guest]]",
+);
+
+const FRAMES: Change<'static> = ("frames = 16", "frames = 17");
+
+const PROCESSORS: Change<'static> = ("processors = [0]", "processors = [0, 0]");
+
 /// What isn't built, in the order of the list.
 #[test]
 fn keys_in_order(rt: HostRuntime) -> Result<(), Fail> {
     let rows = [
         refused(
-            &[
-                ("processors = [0]", "processors = [0, 0]"),
-                ("nodes = 1", "nodes = 2\ncache = 1"),
-            ],
+            &[PROCESSORS, ("nodes = 1", "nodes = 2\ncache = 1")],
             Came::Unbuilt(UnbuiltKey::Nodes),
         ),
         refused(
-            &[("processors = [0]", "processors = [0, 0]\ncache = 1")],
-            Came::Unbuilt(UnbuiltKey::Processors),
-        ),
-        refused(
-            &[
-                ("processors = [0]", "processors = [0]\ncache = 1"),
-                ("vcpus = 1", "vcpus = 2"),
-            ],
+            &[("processors = [0]", "processors = [0]\ncache = 1"), DISK],
             Came::Unbuilt(UnbuiltKey::Cache),
-        ),
-        refused(
-            &[(
-                "[[guest]]",
-                "[[guest]]\nimage = \"a.raw\"\nform = \"raw\"\npages = 1\nvcpus = 2\nnode = 0\n[[guest]]",
-            )],
-            Came::Unbuilt(UnbuiltKey::Guests),
-        ),
-        refused(
-            &[("vcpus = 1", "vcpus = 2\ndisk = \"d.img\"")],
-            Came::Unbuilt(UnbuiltKey::Vcpus(0)),
         ),
         refused(&[DISK, MIGRATE], Came::Unbuilt(UnbuiltKey::Disk(0))),
         refused(&[MIGRATE], Came::Unbuilt(UnbuiltKey::Migrate)),
@@ -419,7 +408,6 @@ fn keys_in_order(rt: HostRuntime) -> Result<(), Fail> {
             )],
             Came::Unbuilt(UnbuiltKey::Act(1)),
         ),
-        refused(&[INPUT], Came::Unbuilt(UnbuiltKey::Input)),
     ];
     for case in &rows {
         try_case(&rt, rt.alloc(), case)?;
@@ -427,7 +415,23 @@ fn keys_in_order(rt: HostRuntime) -> Result<(), Fail> {
     Ok(())
 }
 
-/// Guests alone: their disks and their input are built, and what comes after a disk is passed over.
+/// What is built on one node: several processors, guests and virtual processors, and input.
+#[test]
+fn what_is_built(rt: HostRuntime) -> Result<(), Fail> {
+    let rows = [
+        refused(&[PROCESSORS], Came::Monitored(1, true)),
+        refused(&[("vcpus = 1", "vcpus = 4")], Came::Monitored(1, true)),
+        refused(&[GUESTS, FRAMES], Came::Monitored(2, true)),
+        refused(&[GUESTS], Came::Admission(1, 16, 15)),
+        refused(&[INPUT], Came::Monitored(1, true)),
+    ];
+    for case in &rows {
+        try_case(&rt, rt.alloc(), case)?;
+    }
+    Ok(())
+}
+
+/// Guests alone: their disks are built, and what comes after a disk is passed over.
 #[test]
 fn guests_alone(rt: HostRuntime) -> Result<(), Fail> {
     let rows = [

@@ -1,11 +1,11 @@
 //! Whether all that a description asks for is built, and whether the guests fit.
-ghost use Rattle.std.specs.Prelude.{◌≡◌, ◌≤◌, [], ◌∷◌, length, position, nat_lt, is_some, not};
+ghost use Rattle.std.specs.Prelude.{◌≡◌, ◌≤◌, [], ◌∷◌, length, position, is_some, not};
 ghost use Rattle.machine_desc.specs.Described.{described_seen};
 ghost use Rattle.admission.specs.Jobs.{checks, fits_from};
-ghost use Rattle.admission.specs.Unbuilt.{unbuilt as first_unbuilt, refused_key, first_key, guest_keys, policy_keys, work_keys, input_keys, is_run as runs};
+ghost use Rattle.admission.specs.Unbuilt.{unbuilt as first_unbuilt, refused_key, first_key, guest_keys, policy_keys, work_keys, is_run as runs};
 
 use crate::{Fault, UnbuiltKey};
-use base_words::{GuestId, InputList, Policy};
+use base_words::{GuestId, Policy};
 use machine_desc::{GuestSpec, Item, Machine, Plan};
 
 fn is_run(item: &Item) -> bool
@@ -15,13 +15,6 @@ fn is_run(item: &Item) -> bool
         Item::Run { .. } => true,
         _ => false,
     }
-}
-
-/// The first guest with more than one virtual processor.
-fn first_of_more(guests: &[GuestSpec]) -> Option<usize>
-    ensures { result ≡ position (λ spec. nat_lt 1 spec.vcpus) guests.now }
-{
-    guests.iter().position(|spec| spec.vcpus > 1)
 }
 
 /// The first guest with a disk.
@@ -38,20 +31,10 @@ fn first_other(items: &[Item]) -> Option<usize>
     items.iter().position(|item| !is_run(item))
 }
 
-/// The first guest with input.
-fn first_with_input(input: &[InputList]) -> Option<usize>
-    ensures { result ≡ position (λ list. nat_lt 0 (length list)) input.now }
-{
-    input.iter().position(|list| list.len() > 0)
-}
-
 /// The first key of the guests that isn't built.
 fn guest_key(guests: &[GuestSpec]) -> Option<UnbuiltKey>
     ensures { result ≡ first_key (guest_keys guests.now) }
 {
-    if let Some(guest) = first_of_more(guests) {
-        return Some(UnbuiltKey::Vcpus(guest));
-    }
     if let Some(guest) = first_with_disk(guests) {
         return Some(UnbuiltKey::Disk(guest));
     }
@@ -81,16 +64,6 @@ fn work_key(items: &[Item]) -> Option<UnbuiltKey>
     None
 }
 
-/// The key of the input, where there is some.
-fn input_key(input: &[InputList]) -> Option<UnbuiltKey>
-    ensures { result ≡ first_key (input_keys input.now) }
-{
-    if first_with_input(input).is_some() {
-        return Some(UnbuiltKey::Input);
-    }
-    None
-}
-
 /// One key, or else another.
 fn first_of(first: Option<UnbuiltKey>, second: Option<UnbuiltKey>) -> Option<UnbuiltKey>
     ensures { result ≡ first_key (first ∷ second ∷ []) }
@@ -106,24 +79,15 @@ pub fn unbuilt(machine: &Machine, plan: &Plan) -> Option<UnbuiltKey>
     if machine.shape.nodes > 1 {
         return Some(UnbuiltKey::Nodes);
     }
-    if machine.processors.len() > 1 {
-        return Some(UnbuiltKey::Processors);
-    }
     if machine.cache != 0 {
         return Some(UnbuiltKey::Cache);
     }
-    if machine.guests.len() > 1 {
-        return Some(UnbuiltKey::Guests);
-    }
-    let work = first_of(
-        work_key(plan.items.as_slice()),
-        input_key(plan.input.as_slice()),
-    );
+    let work = work_key(plan.items.as_slice());
     let policy = first_of(policy_key(machine.policy), work);
     first_of(guest_key(machine.guests.as_slice()), policy)
 }
 
-/// Whether the key is refused. A guest alone has its disk and its input.
+/// Whether the key is refused. A guest alone has its disk.
 fn check_built(alone: bool, key: Option<UnbuiltKey>) -> Result<(), Fault>
     ensures { result ≡ refused_key alone key }
 {
@@ -134,13 +98,6 @@ fn check_built(alone: bool, key: Option<UnbuiltKey>) -> Result<(), Fault>
                 Ok(())
             } else {
                 Err(Fault::Unbuilt(UnbuiltKey::Disk(guest)))
-            }
-        }
-        Some(UnbuiltKey::Input) => {
-            if alone {
-                Ok(())
-            } else {
-                Err(Fault::Unbuilt(UnbuiltKey::Input))
             }
         }
         Some(key) => Err(Fault::Unbuilt(key)),

@@ -1,3 +1,7 @@
-pub mod GuestLemmas
-pub mod Replicas
-pub mod StepLemmas
+pub mod Crossing
+pub mod NoteLemmas
+pub mod CountLemmas
+pub mod BootLemmas
+pub mod KeptProofs
+pub mod RoomLemmas
+pub mod EnterProofs

@@ -1,76 +1,115 @@
--- What each call of a guest does, by its answer: which entries its journal gains, or that nothing changes.
-use Rattle.std.specs.Prelude.{◌≡◌, ℕ, List, [], ◌∷◌, ◌++◌, Bool, true, false, Some, None, Result, Ok, Err}
+-- What each call of a guest does, by its answer: which entries its journal gains, and which notes its seat and the token.
+use Rattle.std.specs.Prelude.{◌≡◌, ℕ, ◌<◌, List, [], ◌∷◌, ◌++◌, length, map, Bool, true, false, if◌then◌else◌, Option, Some, None, unwrap_or, Result, Ok, Err}
 use Rattle.std.specs.declared.alloc.AllocError.{AllocError}
 use Rattle.base_words.specs.declared.ids.ProcId.{ProcId}
 use Rattle.base_words.specs.declared.ids.VcpuId.{VcpuId}
 use Rattle.base_words.specs.declared.events.Event.{Event}
-use Rattle.base_words.specs.declared.events.Event.TheVariants.{Load, Emulate, End as Ending}
+use Rattle.base_words.specs.declared.events.Event.TheVariants.{Direct, Refill, Emulate, Load, End as Ending}
 use Rattle.base_words.specs.declared.events.End.{End}
-use Rattle.base_words.specs.declared.events.End.TheVariants.{Halted}
-use Rattle.private_machine.specs.PrivateMachine.{vcpu}
-use Rattle.isolation.specs.GuestState.{processor, all_halted}
-use Rattle.isolation.specs.MachineEvent.{Runs}
-use Rattle.isolation.specs.Run.{Run}
+use Rattle.base_words.specs.declared.events.End.TheVariants.{Halted as ByHalt}
+use Rattle.base_words.specs.declared.trap.Access.{Access}
+use Rattle.shootdown.specs.declared.notes.Note.{Note}
+use Rattle.shootdown.specs.declared.notes.Note.TheVariants.{Made, Halted, Ended}
+use Rattle.shootdown.specs.Notes.{Token, sided}
+use Rattle.isolation_law.specs.GuestState.{processor, vcpu_of}
+use Rattle.isolation_law.specs.Phases.{all_halted}
+use Rattle.isolation_law.specs.Run.{Run}
+use Rattle.guest_course.specs.StepCalls.{StepsDirect}
 use Rattle.guest_core.specs.GuestView.{Monitored}
-use Rattle.guest_core.specs.declared.records.GuestRecord.{GuestRecord}
 use Rattle.guest_core.specs.declared.answers.Loaded.{Loaded}
-use Rattle.guest_core.specs.declared.answers.Loaded.TheVariants.{Done, On, Ended}
+use Rattle.guest_core.specs.declared.answers.Loaded.TheVariants as loaded
 use Rattle.guest_core.specs.declared.answers.Turn.{Turn}
-use Rattle.guest_core.specs.declared.answers.Turn.TheVariants.{Stepped, VcpuHalted, GuestEnded}
+use Rattle.guest_core.specs.declared.answers.Turn.TheVariants as turn
 
 -- the journal gained these entries, and they lead from the old state to the new one
-pub record Extends (old new : Monitored) (entries : List Event) : Type 0 where
+pub record Makes (old : Monitored) (entries : List Event) (new : Monitored) : Type 0 where
   pub journal : new.journal ≡ old.journal ++ entries
   pub run : Run old.state entries new.state
 
--- what a load does
-abbrev pub LoadsVcpu : Monitored → ProcId → VcpuId → Monitored → Result Loaded AllocError → Type 0
-LoadsVcpu old p v new (Ok Done) = Extends old new (Load p v ∷ [])
-LoadsVcpu old p v new (Ok (On q)) = (old.state.ended ≡ None) × ((processor old.state q.0).loaded ≡ Some v.0) × (new ≡ old)
-LoadsVcpu old p v new (Ok (Ended end)) = (old.state.ended ≡ Some end) × (new ≡ old)
-LoadsVcpu old p v new (Err e) = new ≡ old
+-- no entry was made
+pub record Stays (old new : Monitored) : Type 0 where
+  pub journal : new.journal ≡ old.journal
+  pub state : new.state ≡ old.state
 
--- what a call does that makes one entry, or wants memory
-abbrev pub Makes : Monitored → Event → Monitored → Result (Unit {0}) AllocError → Type 0
-Makes old entry new (Ok done) = Extends old new (entry ∷ [])
-Makes old entry new (Err e) = new ≡ old
+-- the seat's notes and the token's grew by these
+pub record Learns (old : Monitored) (token : Token) (told : List Note) (new : Monitored) (token_after : Token) : Type 0 where
+  pub seat : new.notes ≡ old.notes ++ map (sided token.number) told
+  pub token_is : token_after ≡ record token { notes = token.notes ++ map (sided old.number) told }
 
--- the entries of a step: the step, and the end where it halted the last virtual processor
+-- ---- load
+
+pub record IsLoadedOn (old : Monitored) (v q : ℕ) (new : Monitored) : Type 0 where
+  pub not_ended : old.state.end ≡ None
+  pub there : (processor old.state q).loaded ≡ Some v
+  pub stays : Stays old new
+
+pub record HasEnded (old : Monitored) (end : End) (new : Monitored) : Type 0 where
+  pub ended : old.state.end ≡ Some end
+  pub stays : Stays old new
+
+abbrev pub LoadsVcpu : Monitored → ProcId → VcpuId → Monitored → Loaded → Type 0
+LoadsVcpu old p v new loaded.Done = Makes old (Load p v ∷ []) new
+LoadsVcpu old p v new (loaded.On q) = IsLoadedOn old v.0 q.0 new
+LoadsVcpu old p v new (loaded.Ended end) = HasEnded old end new
+
+abbrev pub told_of_load : ProcId → VcpuId → Loaded → List Note
+told_of_load p v loaded.Done = Made (Load p v) ∷ []
+told_of_load p v (loaded.On q) = []
+told_of_load p v (loaded.Ended end) = Ended end ∷ []
+
+-- ---- turn
+
+-- the processor made the step by itself, with these accesses
+pub record TurnsDirect (old : Monitored) (p : ProcId) (v : VcpuId) (access : Access) (new : Monitored) : Type 0 where
+  pub makes : Makes old (Direct p v ∷ []) new
+  pub direct : StepsDirect old.state p.0 v.0 new.state access
+
+-- the entries of a step by the monitor's hand: the step, and the end where it halted the last virtual processor
 abbrev pub step_entries : ProcId → VcpuId → Bool → List Event
-step_entries p v true = Emulate p v ∷ Ending Halted ∷ []
+step_entries p v true = Emulate p v ∷ Ending ByHalt ∷ []
 step_entries p v false = Emulate p v ∷ []
 
--- the virtual processor that is loaded made a step
-pub record Steps (old : Monitored) (p : ProcId) (new : Monitored) : Type 0 where
-  pub v : VcpuId
-  pub not_ended : old.state.ended ≡ None
-  pub runs : Runs old.state p.0 v.0
-  pub extends : Extends old new (step_entries p v (all_halted new.state.machine.vcpus))
+abbrev pub end_of : Bool → Option End
+end_of halted = if halted then Some ByHalt else None
+
+pub record TurnsEmulate (old : Monitored) (p : ProcId) (v : VcpuId) (new : Monitored) : Type 0 where
+  pub makes : Makes old (step_entries p v (all_halted new.state.vcpus)) new
+  pub end : new.state.end ≡ end_of (all_halted new.state.vcpus)
 
 -- the virtual processor that is loaded has halted
-pub record HasHalted (old : Monitored) (p : ProcId) (new : Monitored) : Type 0 where
-  pub v : ℕ
-  pub not_ended : old.state.ended ≡ None
-  pub loaded : (processor old.state p.0).loaded ≡ Some v
-  pub halted : (vcpu old.state.machine v).halted ≡ true
-  pub same : new ≡ old
+pub record HasHalted (old : Monitored) (v : ℕ) (new : Monitored) : Type 0 where
+  pub not_ended : old.state.end ≡ None
+  pub halted : (vcpu_of old.state v).halted ≡ true
+  pub stays : Stays old new
 
--- the guest of the virtual processor that is loaded had ended before
-pub record HasEnded (old : Monitored) (p : ProcId) (end : End) (new : Monitored) : Type 0 where
-  pub v : ℕ
-  pub loaded : (processor old.state p.0).loaded ≡ Some v
-  pub ended : old.state.ended ≡ Some end
-  pub same : new ≡ old
+abbrev pub TurnAnswers : Monitored → ProcId → VcpuId → Monitored → Turn → Type 0
+TurnAnswers old p v new (turn.Stepped (Some access)) = TurnsDirect old p v access new
+TurnAnswers old p v new (turn.Stepped None) = TurnsEmulate old p v new
+TurnAnswers old p v new turn.Refilled = Makes old (Refill p ∷ []) new
+TurnAnswers old p v new turn.VcpuHalted = HasHalted old v.0 new
+TurnAnswers old p v new (turn.GuestEnded end) = HasEnded old end new
 
--- what a turn does
-abbrev pub Turns : Monitored → ProcId → Monitored → Result Turn AllocError → Type 0
-Turns old p new (Ok Stepped) = Steps old p new
-Turns old p new (Ok VcpuHalted) = HasHalted old p new
-Turns old p new (Ok (GuestEnded end)) = HasEnded old p end new
-Turns old p new (Err e) = new ≡ old
+-- a turn of the virtual processor that is loaded; where memory is wanting no entry was made
+abbrev pub Turns : Monitored → ProcId → VcpuId → Monitored → Result Turn AllocError → Type 0
+Turns old p v new (Ok answer) = TurnAnswers old p v new answer
+Turns old p v new (Err e) = Stays old new
 
--- what a guest that has ended leaves
-pub record Leaves (guest : Monitored) (left : GuestRecord) : Type 0 where
-  pub journal : left.journal ≡ guest.journal
-  pub console : left.console ≡ guest.state.machine.devices.console
-  pub end : guest.state.ended ≡ Some left.end
+abbrev pub told_of_turn : ProcId → VcpuId → Result Turn AllocError → List Note
+told_of_turn p v (Ok (turn.Stepped (Some access))) = Made (Direct p v) ∷ []
+told_of_turn p v (Ok (turn.Stepped None)) = Made (Emulate p v) ∷ []
+told_of_turn p v (Ok turn.Refilled) = []
+told_of_turn p v (Ok turn.VcpuHalted) = Halted v ∷ []
+told_of_turn p v (Ok (turn.GuestEnded end)) = Ended end ∷ []
+told_of_turn p v (Err e) = []
+
+-- the processor of a token, and the virtual processor that is loaded there
+abbrev pub processor_of : Token → ProcId
+processor_of token = record { 0 = token.number }
+
+abbrev pub loaded_on : Monitored → Token → VcpuId
+loaded_on g token = record { 0 = unwrap_or (processor g.state token.number).loaded 0 }
+
+-- a token's processor is one of the guest's, and its board the one that made the guest's seat
+pub record MayNote (g : Monitored) (token : Token) : Type 0 where
+  pub board : token.board ≡ g.board
+  pub is_processor : token.number < length g.start.around.processors

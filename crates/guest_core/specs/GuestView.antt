@@ -1,39 +1,64 @@
--- How contracts see a guest, its image and its record.
-use Rattle.std.specs.Prelude.{◌≡◌, ◌≢◌, ℕ, ◌<◌, ◌≤◌, length, List, false, Option, Some, None, option_map, map, slice_index_or}
-use Rattle.base_words.specs.declared.ids.VcpuId.{VcpuId}
+-- How contracts see a guest.
+use Rattle.std.specs.Prelude.{◌≡◌, ℕ, ◌-◌, ◌*◌, min, List, [], Bool, count_by, is_some}
+use Rattle.std.specs.Vec.{vec_len, vec_capacity}
+use Rattle.atomic_table.specs.Seated.{TableId}
 use Rattle.base_words.specs.declared.events.Event.{Event}
-use Rattle.isolation.specs.GuestState.{GuestState, Processor, idle, processor, all_halted}
-use Rattle.guest_core.specs.declared.guest.Guest.TheInside.{Inside}
+use Rattle.shootdown.specs.declared.view.SidedNote.{SidedNote}
+use Rattle.isolation_law.specs.GuestState.{GuestState}
+use Rattle.isolation_law.specs.Parts.{Processor}
+use Rattle.isolation_law.specs.Start.{Boot, start as started}
+use Rattle.guest_course.specs.declared.course.Course.{Course}
+use Rattle.guest_course.specs.CourseView.{state_of}
+use Rattle.guest_core.specs.declared.parts.Parts.{Parts}
 
--- a guest: its state, and the journal that led to it
+-- a guest: its number, what it was started from, the board that made its seat; its state, the journal that led to it, its seat's notes;
+-- and the room that was made for its calls
 pub record Monitored : Type 0 where
+  pub number : ℕ
+  pub start : Boot
+  pub board : TableId
   pub state : GuestState
   pub journal : List Event
+  pub notes : List SidedNote
+  pub room : ℕ
 
-abbrev pub processor_of : Option VcpuId → Processor
-processor_of vcpu = record { loaded = option_map (λ (v : VcpuId). v.0) vcpu }
+abbrev pub is_loaded : Processor → Bool
+is_loaded p = is_some p.loaded
 
--- what is loaded on a processor, of the list that is kept
-abbrev pub loaded_at : List (Option VcpuId) → ℕ → Option ℕ
-loaded_at loaded p = (slice_index_or (map processor_of loaded) p idle).loaded
+-- how many virtual processors are loaded
+abbrev pub loaded_count : GuestState → ℕ
+loaded_count s = count_by is_loaded s.processors
 
--- a virtual processor is loaded nowhere
-abbrev pub IsNowhere : List (Option VcpuId) → VcpuId → Type 0
-IsNowhere loaded vcpu = (q : ℕ) → loaded_at loaded q ≢ Some vcpu.0
+-- for how many calls all but the journal has room: each may print a byte and send a packet, with its cell
+abbrev pub calls_room : Course → ℕ
+calls_room c = min (min c.devs.print_room c.devs.send_room) (vec_capacity c.sent_from - vec_len c.sent_from)
 
-abbrev pub state_of : Inside → GuestState
-state_of g = record { machine = g.machine; processors = map processor_of g.loaded.items; ended = g.ended }
+-- the journal's free places that no later unload needs, or twice the calls for which there is room, whichever is less
+abbrev pub room_of : ℕ → Course → ℕ
+room_of free c = min (free - loaded_count (state_of c)) (2 * calls_room c)
 
-abbrev pub guest_of : Inside → Monitored
-guest_of g = record { state = state_of g; journal = g.journal.items }
+abbrev pub guest_of : Parts → Monitored
+guest_of g = record {
+  number = g.number.0;
+  start = g.start;
+  board = g.seat.board;
+  state = state_of g.course;
+  journal = g.journal.entries;
+  notes = g.seat.notes;
+  room = room_of g.journal.room g.course;
+}
 
--- each loaded virtual processor is one of the guest's, and a guest whose last one has halted has ended
-pub record IsSound (s : GuestState) : Type 0 where
-  pub few : length s.processors ≤ 16
-  pub there : (p v : ℕ) → (processor s p).loaded ≡ Some v → v < length s.machine.vcpus
-  pub runs : s.ended ≡ None → all_halted s.machine.vcpus ≡ false
+-- number, start and board stay
+pub record IsSameGuest (old new : Monitored) : Type 0 where
+  pub number : new.number ≡ old.number
+  pub start : new.start ≡ old.start
+  pub board : new.board ≡ old.board
 
--- and how many there are is kept beside them
-pub record IsKept (g : Inside) : Type 0 where
-  pub sound : IsSound (state_of g)
-  pub count : g.vcpus ≡ length g.machine.vcpus
+-- a guest at its start, without notes
+pub record IsAtStart (number : ℕ) (b : Boot) (board : TableId) (g : Monitored) : Type 0 where
+  pub number_is : g.number ≡ number
+  pub start_is : g.start ≡ b
+  pub board_is : g.board ≡ board
+  pub state_is : g.state ≡ started b
+  pub no_entries : g.journal ≡ []
+  pub no_notes : g.notes ≡ []

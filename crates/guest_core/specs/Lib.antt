@@ -1,2 +1,7 @@
-pub mod GuestCalls
+pub mod Starting
 pub mod GuestView
+pub mod Noting
+pub mod Kept
+pub mod GuestCalls
+pub mod Records
+pub mod TurnParts

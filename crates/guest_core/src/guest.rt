@@ -1,30 +1,30 @@
-//! A guest under the monitor.
-ghost use Rattle.std.specs.Prelude.{◌≡◌, ◌≢◌, ◌≤◌, ◌<◌, length, [], ◌∷◌, ◌++◌, map, None, Some, IfOk, OnOk, OnErr, MatchOption, option_map, ℕ, replicate, vec_len, vec_capacity, ◌+◌, if◌then◌else◌, IsTrue, ◌↔◌, false};
-ghost use Rattle.base_words.specs.declared.ids.VcpuId.{VcpuId};
-ghost use Rattle.base_words.specs.declared.events.Event.TheVariants.{Load, Unload, End as Ending};
-ghost use Rattle.base_words.specs.declared.events.End.TheVariants.{Budget, Halted};
-ghost use Rattle.private_machine.specs.PrivateRun.{booted};
-ghost use Rattle.isolation.specs.GuestState.{admitted, processor as processor_at, with_loaded, all_halted as all_halted_of};
-ghost use Rattle.isolation.specs.MachineEvent.{Runs};
-ghost use Rattle.flat_machine.specs.FlatView.{start_of};
-ghost use Rattle.guest_core.specs.GuestView.{IsNowhere, loaded_at};
-ghost use Rattle.guest_core.specs.GuestCalls.{LoadsVcpu, Leaves, Makes, Turns};
+//! A guest under the monitor, whose journal is a run from its start.
+ghost use Rattle.std.specs.Prelude.{◌≡◌, ◌≢◌, ◌≤◌, ◌<◌, ◌+◌, [], ◌∷◌, length, None, Some, All, IfOk, OnOk};
+ghost use Rattle.shootdown.specs.declared.view.SidedNote.{SidedNote};
+ghost use Rattle.base_words.specs.declared.events.Event.TheVariants.{Unload, End as Ending};
+ghost use Rattle.base_words.specs.declared.events.End.TheVariants.{Budget};
+ghost use Rattle.shootdown.specs.declared.notes.Note.TheVariants.{Made};
+ghost use Rattle.shootdown.specs.Notes.{with_side};
+ghost use Rattle.isolation_law.specs.GuestState.{processor as processor_at};
+ghost use Rattle.guest_core.specs.Starting.{booted_with, MayStart};
+ghost use Rattle.guest_core.specs.GuestView.{IsAtStart, IsSameGuest};
+ghost use Rattle.guest_core.specs.Noting.{IsNoted, shows_loaded};
+ghost use Rattle.guest_core.specs.GuestCalls.{Makes, Stays, Learns, LoadsVcpu, told_of_load, MayNote, processor_of, loaded_on, Turns, told_of_turn};
+ghost use Rattle.guest_core.specs.Records.{IsRecord};
 
+use crate::parts::Parts;
 use crate::{GuestRecord, Loaded, Turn};
-use base_words::{End, Event, InputList, OwnEvent, ProcId, Sequence, VcpuId};
+use base_words::{End, FrameList, InputList, VcpuId};
 use elf_image::Image;
-use flat_machine::Flat;
+use guest_course::Around;
+use shootdown::{GuestSeat, ProcToken};
 use std::alloc::{AllocError, Global};
 use std::marker::Model;
 
-/// A guest: its machine of so many virtual processors, what is loaded on each processor, how it ended, and its journal.
-#[derive(Debug, Drop)]
+/// A guest. Contracts see its number, what it was started from, its state and journal, its seat's notes, and the room that was made.
+#[derive(Drop)]
 pub struct Guest {
-    machine: Flat,
-    vcpus: u8,
-    loaded: Vec<Option<VcpuId>>,
-    ended: Option<End>,
-    journal: Vec<Event>,
+    parts: Parts,
 }
 
 impl Model for Guest {
@@ -32,243 +32,132 @@ impl Model for Guest {
 
     ghost Value = { Monitored };
 
-    ghost use Rattle.guest_core.specs.GuestView.{guest_of, IsKept};
+    ghost use Rattle.guest_core.specs.GuestView.{guest_of};
+    ghost use Rattle.guest_core.specs.Kept.{IsKept};
 
-    ghost view = { guest_of };
+    ghost view = { λ g. guest_of g.parts };
 
-    ghost invariant = { IsKept };
+    ghost invariant = { λ g. IsKept g.parts };
 }
 
 impl Guest {
-    /// A guest at its start, with so many virtual processors, of which none is loaded on one of so many processors. It has no
-    /// disk and no input.
-    pub fn boot(alloc: Global, image: &Image, vcpus: u8, processors: u8) -> Result<Self, AllocError>
-        requires some { 0 < vcpus }
-        requires few { processors ≤ 16 }
-        ensures { IfOk result (λ g. g ≡ record { state = admitted (booted (start_of image.now) vcpus [] []) processors; journal = [] }) }
+    /// The guest of this seat, at its start: so many virtual processors, of which none is loaded, and the image's pages, each in the
+    /// next of these frames.
+    pub fn boot(
+        alloc: Global,
+        image: Image,
+        around: Around,
+        vcpus: u8,
+        input: &InputList,
+        frames: FrameList,
+        seat: GuestSeat,
+    ) -> Result<Self, AllocError>
+        requires may { MayStart around image vcpus frames }
+        requires no_notes { seat.notes ≡ [] }
+        ensures { IfOk result (λ g. IsAtStart seat.number (booted_with around image vcpus frames input.now) seat.board g) }
     {
-        let input = InputList::new(alloc);
         Ok(Guest {
-            machine: Flat::boot(alloc, image, vcpus, None, &input)?,
-            vcpus,
-            loaded: idle(alloc, processors)?,
-            ended: None,
-            journal: Vec::new(alloc),
+            parts: Parts::boot(alloc, image, around, vcpus, input, frames, seat)?,
         })
     }
 
-    /// How the guest ended; none where it hasn't.
+    /// How the guest ended; None exactly where it hasn't.
+    #[inline]
     pub fn end(&self) -> Option<End>
-        ensures { result ≡ self.now.state.ended }
+        ensures { result ≡ self.now.state.end }
     {
-        self.ended
+        self.parts.course.ended
     }
 
-    /// What is loaded on a processor; none past the last processor.
-    pub fn loaded(&self, processor: ProcId) -> Option<VcpuId>
-        ensures { option_map (λ (v : VcpuId). v.0) result ≡ (processor_at self.now.state processor.0).loaded }
+    /// Makes room for one further call. A refusal changes nothing but what room there is.
+    #[inline]
+    pub fn make_room(&mut self) -> Result<(), AllocError>
+        ensures same { IsSameGuest self.old self.new }
+        ensures stays { Stays self.old self.new }
+        ensures notes { self.new.notes ≡ self.old.notes }
+        ensures room { OnOk result (2 ≤ self.new.room) }
     {
-        loaded_on(&self.loaded, processor)
+        self.parts.make_room()
     }
 
-    /// Puts an entry at the end of the journal.
-    fn enter(&mut self, event: Event) -> Result<(), AllocError>
-        ensures ok { OnOk result (self.new ≡ record self.old { journal = self.old.journal ++ event ∷ [] }) }
-        ensures err { OnErr result (self.new ≡ self.old) }
-        ensures runs { self.old.state.ended ≡ None → all_halted_of self.old.state.machine.vcpus ≡ false }
+    /// Tells that what a token noted of this guest is what the guest's seat noted of the token's processor, and that it shows what is
+    /// loaded there.
+    #[inline]
+    pub fn agree(&mut self, token: &mut ProcToken)
+        requires { MayNote self.old token.old }
+        ensures same { (self.new ≡ self.old) × (token.new ≡ token.old) }
+        ensures notes { with_side self.old.number token.old.notes ≡ with_side token.old.number self.old.notes }
+        ensures loaded { shows_loaded (with_side self.old.number token.old.notes) ≡ (processor_at self.old.state token.old.number).loaded }
     {
-        match self.journal.push(event) {
-            Ok(()) => Ok(()),
-            Err(_) => Err(AllocError),
-        }
+        self.parts.agree(token);
     }
 
-    /// What is loaded on a processor from now on.
-    fn set_loaded(&mut self, processor: ProcId, vcpu: Option<VcpuId>)
-        requires processor { processor.0 < length self.old.state.processors }
-        requires vcpu { (v : VcpuId) → vcpu ≡ Some v → v.0 < length self.old.state.machine.vcpus }
-        ensures { self.new ≡ record self.old { state = with_loaded self.old.state processor.0 (option_map (λ (v : VcpuId). v.0) vcpu) } }
+    /// Loads a virtual processor on the token's processor, on which nothing is loaded. `Ended` exactly where the guest has ended;
+    /// else `On` exactly where it is loaded already, on that processor.
+    pub fn load_vcpu(&mut self, token: &mut ProcToken, vcpu: VcpuId) -> Loaded
+        requires room { 2 ≤ self.old.room }
+        requires token { MayNote self.old token.old }
+        requires vcpu { vcpu.0 < self.old.start.vcpus }
+        requires free { (processor_at self.old.state token.old.number).loaded ≡ None }
+        requires before { self.old.state.end ≢ Some Budget }
+        ensures loads { LoadsVcpu self.old (processor_of token.old) vcpu self.new result }
+        ensures learns { Learns self.old token.old (told_of_load (processor_of token.old) vcpu result) self.new token.new }
+        ensures same { IsSameGuest self.old self.new }
+        ensures room { self.old.room ≤ self.new.room + 2 }
     {
-        self.loaded[processor.0 as usize] = vcpu;
+        self.parts.load_vcpu(token, vcpu)
     }
 
-    /// Loads a virtual processor on a processor on which nothing is loaded.
-    pub fn load_vcpu(&mut self, processor: ProcId, vcpu: VcpuId) -> Result<Loaded, AllocError>
-        requires processor { processor.0 < length self.old.state.processors }
-        requires vcpu { vcpu.0 < length self.old.state.machine.vcpus }
-        requires free { (processor_at self.old.state processor.0).loaded ≡ None }
-        ensures { LoadsVcpu self.old processor vcpu self.new result }
+    /// Unloads what is loaded on the token's processor. It needs no room.
+    pub fn unload(&mut self, token: &mut ProcToken)
+        requires token { MayNote self.old token.old }
+        requires loaded { (processor_at self.old.state token.old.number).loaded ≢ None }
+        requires before { self.old.state.end ≢ Some Budget }
+        ensures makes { Makes self.old (Unload (processor_of token.old) ∷ []) self.new }
+        ensures learns { Learns self.old token.old (Made (Unload (processor_of token.old)) ∷ []) self.new token.new }
+        ensures same { IsSameGuest self.old self.new }
+        ensures room { self.old.room ≤ self.new.room }
     {
-        if let Some(end) = self.ended {
-            return Ok(Loaded::Ended(end));
-        }
-        if let Some(other) = processor_with(&self.loaded, vcpu) {
-            return Ok(Loaded::On(other));
-        }
-        self.enter(Event::Load(processor, vcpu))?;
-        self.set_loaded(processor, Some(vcpu));
-        Ok(Loaded::Done)
+        self.parts.unload(token);
     }
 
-    /// Unloads what is loaded on a processor. The plan may not have ended the guest.
-    pub fn unload(&mut self, processor: ProcId) -> Result<(), AllocError>
-        requires loaded { (processor_at self.old.state processor.0).loaded ≢ None }
-        requires before { self.old.state.ended ≢ Some Budget }
-        ensures { Makes self.old (Unload processor) self.new result }
+    /// The virtual processor that is loaded on the token's processor has its turn: `GuestEnded` exactly where the guest has ended, else
+    /// `VcpuHalted` exactly where it has halted; else one step of its own or one refill. Want of memory comes only at a send, and then
+    /// no entry was made. The step that halts the last virtual processor ends the guest.
+    #[inline]
+    pub fn turn(&mut self, alloc: Global, token: &mut ProcToken) -> Result<Turn, AllocError>
+        requires room { 2 ≤ self.old.room }
+        requires token { MayNote self.old token.old }
+        requires loaded { (processor_at self.old.state token.old.number).loaded ≢ None }
+        requires before { self.old.state.end ≢ Some Budget }
+        ensures turns { Turns self.old (processor_of token.old) (loaded_on self.old token.old) self.new result }
+        ensures learns { Learns self.old token.old (told_of_turn (processor_of token.old) (loaded_on self.old token.old) result) self.new token.new }
+        ensures same { IsSameGuest self.old self.new }
+        ensures room { self.old.room ≤ self.new.room + 2 }
     {
-        self.enter(Event::Unload(processor))?;
-        self.set_loaded(processor, None);
-        Ok(())
-    }
-
-    /// The virtual processor that is loaded on a processor makes one step of its own, where the guest hasn't ended and it
-    /// hasn't halted. The guest ends with the step that halts its last one.
-    pub fn turn(&mut self, processor: ProcId) -> Result<Turn, AllocError>
-        requires { (processor_at self.old.state processor.0).loaded ≢ None }
-        ensures { Turns self.old processor self.new result }
-    {
-        if let Some(end) = self.ended {
-            return Ok(Turn::GuestEnded(end));
-        }
-        let vcpu = loaded_vcpu(&self.loaded, processor);
-        if self.machine.halted(vcpu) {
-            return Ok(Turn::VcpuHalted);
-        }
-        self.step(processor, vcpu)
-    }
-
-    /// A step of a virtual processor that runs.
-    fn step(&mut self, processor: ProcId, vcpu: VcpuId) -> Result<Turn, AllocError>
-        requires not_ended { self.old.state.ended ≡ None }
-        requires there { vcpu.0 < length self.old.state.machine.vcpus }
-        requires runs { Runs self.old.state processor.0 vcpu.0 }
-        ensures { Turns self.old processor self.new result }
-    {
-        if self.journal.reserve(2).is_err() {
-            return Err(AllocError);
-        }
-        self.machine.own_event(&OwnEvent::Step(vcpu))?;
-        record(&mut self.journal, Event::Emulate(processor, vcpu));
-        let halted = all_halted(&self.machine, self.vcpus);
-        self.ended = conclude(halted, &mut self.journal);
-        Ok(Turn::Stepped)
-    }
-
-    /// What the guest leaves.
-    pub fn into_record(self) -> GuestRecord
-        requires { self.state.ended ≢ None }
-        ensures { Leaves self result }
-    {
-        let Guest {
-            machine,
-            vcpus: _,
-            loaded: _,
-            ended,
-            journal,
-        } = self;
-        GuestRecord {
-            journal: Sequence::from_vec(journal),
-            console: machine.into_console(),
-            end: ended.unwrap(),
-        }
+        self.parts.turn(alloc, token)
     }
 
     /// Ends a guest that hasn't ended, since the plan is done.
-    pub fn end_budget(&mut self) -> Result<(), AllocError>
-        requires { self.old.state.ended ≡ None }
-        ensures { Makes self.old (Ending Budget) self.new result }
+    pub fn end_budget(&mut self)
+        requires room { 2 ≤ self.old.room }
+        requires not_ended { self.old.state.end ≡ None }
+        ensures makes { Makes self.old (Ending Budget ∷ []) self.new }
+        ensures notes { self.new.notes ≡ self.old.notes }
+        ensures same { IsSameGuest self.old self.new }
     {
-        self.enter(Event::End(End::Budget))?;
-        self.ended = Some(End::Budget);
-        Ok(())
+        self.parts.end_budget();
     }
-}
 
-/// Whether all of so many virtual processors have halted.
-fn all_halted(machine: &Flat, vcpus: u8) -> bool
-    requires { vcpus ≡ length machine.now.vcpus }
-    ensures { result ≡ all_halted_of machine.now.vcpus }
-{
-    for number in 0..vcpus {
-        if !machine.halted(VcpuId(number)) {
-            return false;
-        }
-    }
-    true
-}
-
-/// So many processors on which nothing is loaded.
-fn idle(alloc: Global, processors: u8) -> Result<Vec<Option<VcpuId>>, AllocError>
-    ensures { IfOk result (λ loaded. loaded.items ≡ replicate processors None) }
-{
-    let mut loaded = Vec::with_capacity(alloc, processors as usize)?;
-    for _ in 0..processors {
-        loaded.push(None)?;
-    }
-    Ok(loaded)
-}
-
-/// The processor on which a virtual processor is loaded.
-fn processor_with(loaded: &[Option<VcpuId>], vcpu: VcpuId) -> Option<ProcId>
-    requires { length loaded.now ≤ 16 }
-    ensures { MatchOption result (IsNowhere loaded.now vcpu) (λ p. loaded_at loaded.now p.0 ≡ Some vcpu.0) }
-{
-    for (number, slot) in loaded.iter().enumerate() {
-        if is_same(*slot, vcpu) {
-            return Some(ProcId(number as u8));
-        }
-    }
-    None
-}
-
-/// Whether this virtual processor is the one that is loaded.
-fn is_same(slot: Option<VcpuId>, vcpu: VcpuId) -> bool
-    ensures { IsTrue result ↔ (option_map (λ (v : VcpuId). v.0) slot ≡ Some vcpu.0) }
-{
-    match slot {
-        Some(loaded) => loaded.0 == vcpu.0,
-        None => false,
-    }
-}
-
-/// What is loaded on a processor; none past the last processor.
-fn loaded_on(loaded: &[Option<VcpuId>], processor: ProcId) -> Option<VcpuId>
-    ensures { option_map (λ (v : VcpuId). v.0) result ≡ loaded_at loaded.now processor.0 }
-{
-    loaded.get(processor.0 as usize).copied().flatten()
-}
-
-/// The virtual processor that is loaded on a processor.
-fn loaded_vcpu(loaded: &[Option<VcpuId>], processor: ProcId) -> VcpuId
-    requires { loaded_at loaded.now processor.0 ≢ None }
-    ensures { loaded_at loaded.now processor.0 ≡ Some result.0 }
-{
-    match loaded.get(processor.0 as usize) {
-        Some(Some(vcpu)) => *vcpu,
-        _ => unreachable!(),
-    }
-}
-
-/// Puts an entry at the end of a journal that has room for it.
-fn record(journal: &mut Vec<Event>, event: Event)
-    requires { vec_len journal.old < vec_capacity journal.old }
-    ensures items { journal.new.items ≡ journal.old.items ++ event ∷ [] }
-    ensures len { vec_len journal.new ≡ vec_len journal.old + 1 }
-    ensures capacity { vec_capacity journal.old ≤ vec_capacity journal.new }
-{
-    journal.push(event).unwrap();
-}
-
-/// Notes the end where the last virtual processor has halted.
-fn conclude(halted: bool, journal: &mut Vec<Event>) -> Option<End>
-    requires { vec_len journal.old < vec_capacity journal.old }
-    ensures end { result ≡ (if halted then Some Halted else None) }
-    ensures items { journal.new.items ≡ journal.old.items ++ (if halted then Ending Halted ∷ [] else []) }
-{
-    if halted {
-        record(journal, Event::End(End::Halted));
-        Some(End::Halted)
-    } else {
-        None
+    /// What a guest that has ended leaves: its record, and its seat with its notes.
+    pub fn into_record(self) -> (GuestRecord, GuestSeat)
+        requires { self.state.end ≢ None }
+        ensures left { IsRecord self.start self.state result.0 }
+        ensures journal { result.0.journal.entries ≡ self.journal }
+        ensures seat { result.1 ≡ record { board = self.board; number = self.number; notes = self.notes } }
+        ensures sides { All (λ (n : SidedNote). n.side < length self.start.around.processors) self.notes }
+        ensures notes { IsNoted self.state self.journal self.notes }
+    {
+        self.parts.into_record()
     }
 }

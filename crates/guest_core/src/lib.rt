@@ -1,13 +1,18 @@
-//! A guest under the monitor: each public call is one entry of its journal, or none.
+//! A guest under the monitor: one event a call, with the run of its journal in its type.
 #![tactic(auto)]
 
+mod advancing;
 mod answers;
+mod booting;
+mod ending;
 mod guest;
+mod keeping;
+mod loading;
+mod parts;
 mod records;
+mod start;
+mod turning;
 
 pub use answers::{Loaded, Turn};
 pub use guest::Guest;
-pub use records::{Cut, GuestRecord, Journal, RecordList, RunRecord, SliceList, SliceRecord};
-
-#[cfg(test)]
-mod tests;
+pub use records::{Cut, GuestRecord, RecordList, RunRecord, SliceList, SliceRecord};

@@ -1,7 +1,6 @@
-pub mod Digits
-pub mod JournalLemmas
-pub mod ReadingLemmas
-pub mod SliceLemmas
+pub mod AloneLemmas
+pub mod EndLemmas
+pub mod FinishedLemmas
+pub mod MonitoredLemmas
 pub mod Statuses
-pub mod WholeLemmas
 pub mod WrittenSoFar

@@ -1,9 +1,8 @@
-pub mod Accepted
-pub mod Chain
-pub mod Exactly
-pub mod Headline
-pub mod PlanDue
-pub mod Reads
+pub mod Counted
 pub mod Report
-pub mod Slices
-pub mod Words
+pub mod FaultLines
+pub mod Alone
+pub mod Monitored
+pub mod Ends
+pub mod Headline
+pub mod Exactly

@@ -1,12 +1,12 @@
--- The printed text of a record, and of a refusal.
-use Rattle.std.specs.Prelude.{ℕ, ◌+◌, List, [], ◌∷◌, ◌++◌, length, codes, decimal}
+-- The printed text of a run: what each guest printed, how it ended, and perhaps its sums.
+use Rattle.std.specs.Prelude.{ℕ, ◌+◌, List, [], ◌∷◌, ◌++◌, Bool, true, false, length, codes, decimal}
 use Rattle.base_words.specs.declared.events.End.{End}
 use Rattle.base_words.specs.declared.events.End.TheVariants.{Halted, Budget, CellFailed}
+use Rattle.base_words.specs.declared.events.Event.{Event}
 use Rattle.guest_core.specs.declared.records.GuestRecord.{GuestRecord}
-use Rattle.monitor_run.specs.declared.faults.Fault.{Fault}
-use Rattle.monitor_run.specs.declared.faults.Fault.TheVariants.{Words, Read, Long, BadImage}
-use Rattle.elf_image.specs.declared.fault.ImageFault.{ImageFault}
-use Rattle.elf_image.specs.declared.fault.ImageFault.TheVariants.{Short, Magic, Class, Order, Version, Kind, Processor, Headers, Interp, Segment, Place, Overlap, Entry, Memory}
+use Rattle.monitor_run.specs.declared.private_run.Alone.{Alone}
+use Rattle.monitor_run.specs.declared.sums.Sums.{Sums}
+use Rattle.monitor_run.specs.Counted.{sums_of}
 
 -- a line ends with a line feed
 abbrev pub line_end : List ℕ
@@ -25,40 +25,40 @@ console_line number count = codes "guest " ++ (decimal number ++ (codes " consol
 abbrev pub end_line : End → List ℕ
 end_line end = line_end ++ (codes "end " ++ (end_text end ++ line_end))
 
-abbrev pub guest_text : ℕ → GuestRecord → List ℕ
-guest_text number guest = console_line number (length guest.console) ++ (guest.console ++ end_line guest.end)
+abbrev pub guest_text : ℕ → List ℕ → End → List ℕ
+guest_text number console end = console_line number (length console) ++ (console ++ end_line end)
 
--- the guests' texts in order, numbered on from a number
-abbrev pub guest_texts : ℕ → List GuestRecord → List ℕ
-guest_texts number [] = []
-guest_texts number (guest ∷ guests) = guest_text number guest ++ guest_texts (number + 1) guests
+-- the line of a guest's sums: of its steps and moves, and of what it shares and receives
+abbrev pub step_sums : Sums → List ℕ
+step_sums s =
+    codes "sums steps " ++ (decimal s.steps
+    ++ (codes " refills " ++ (decimal s.refills
+    ++ (codes " moves " ++ (decimal s.moves
+    ++ (codes " skips " ++ decimal s.skips))))))
 
-abbrev pub image_fault_text : ImageFault → List ℕ
-image_fault_text Short = codes "short"
-image_fault_text Magic = codes "magic"
-image_fault_text Class = codes "class"
-image_fault_text Order = codes "order"
-image_fault_text Version = codes "version"
-image_fault_text Kind = codes "kind"
-image_fault_text Processor = codes "processor"
-image_fault_text Headers = codes "headers"
-image_fault_text Interp = codes "interp"
-image_fault_text (Segment n) = codes "segment " ++ decimal n
-image_fault_text (Place n) = codes "place " ++ decimal n
-image_fault_text (Overlap n m) = codes "overlap " ++ (decimal n ++ (codes " " ++ decimal m))
-image_fault_text Entry = codes "entry"
-image_fault_text Memory = codes "memory"
+abbrev pub share_sums : Sums → List ℕ
+share_sums s =
+    codes " breaks " ++ (decimal s.breaks
+    ++ (codes " shared " ++ (decimal s.shared
+    ++ (codes " received " ++ (decimal s.received
+    ++ (codes " discarded " ++ (decimal s.discarded ++ line_end)))))))
 
--- the line of a refusal
-abbrev pub fault_line : Fault → List ℕ
-fault_line Words = codes "fault words" ++ line_end
-fault_line (Read name) = codes "fault read " ++ (name ++ line_end)
-fault_line (Long name) = codes "fault long " ++ (name ++ line_end)
-fault_line (BadImage guest fault) = codes "fault image " ++ (decimal guest.0 ++ (codes " " ++ (image_fault_text fault ++ line_end)))
+abbrev pub sums_line : Sums → List ℕ
+sums_line s = step_sums s ++ share_sums s
 
--- the exit status of a refusal
-abbrev pub status_of : Fault → ℕ
-status_of Words = 2
-status_of (Read name) = 3
-status_of (BadImage guest fault) = 6
-status_of (Long name) = 8
+abbrev pub sums_text : Bool → List Event → List ℕ
+sums_text true journal = sums_line (sums_of journal)
+sums_text false journal = []
+
+-- the texts of items one after the other, numbered on from a number
+abbrev pub numbered : {A : Type 0} → (ℕ → A → List ℕ) → ℕ → List A → List ℕ
+numbered text number [] = []
+numbered text number (x ∷ xs) = text number x ++ numbered text (number + 1) xs
+
+-- a guest under the monitor, with its sums or without
+abbrev pub record_text : Bool → ℕ → GuestRecord → List ℕ
+record_text sums number guest = guest_text number guest.console guest.end ++ sums_text sums guest.journal.entries
+
+-- a guest that ran alone
+abbrev pub alone_text : ℕ → Alone → List ℕ
+alone_text number guest = guest_text number guest.console guest.end

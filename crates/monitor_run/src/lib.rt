@@ -1,25 +1,34 @@
 //! The top call: from the command line's words to the printed report.
 #![tactic(auto)]
 
-mod admission;
-mod faults;
-mod job;
+mod fault_lines;
+mod finished;
 mod law;
-mod plan;
+mod monitored;
+mod private_run;
 mod render;
 mod report;
-mod runner;
+mod sums;
 mod top;
-mod words;
 
+pub use admission::{Fault, Job, Refusal, UnbuiltKey};
 pub use elf_image::ImageFault;
-pub use faults::{Fault, Refusal};
-pub use job::Job;
 pub use law::exactly;
-pub use plan::RunItem;
+pub use private_run::Alone;
+pub use sums::Sums;
 pub use top::disco;
 
 #[cfg(test)]
+mod descriptions;
+#[cfg(test)]
+mod examples;
+#[cfg(test)]
+mod handlers;
+#[cfg(test)]
+mod parallel;
+#[cfg(test)]
 mod programs;
+#[cfg(test)]
+mod spaces;
 #[cfg(test)]
 mod tests;

@@ -1,10 +1,16 @@
 //! Puts the printed texts on the sink.
 ghost use Rattle.std.specs.Prelude.{◌≡◌, ◌++◌};
 ghost use Rattle.outside_io.specs.Writing.{Puts, Writes};
-ghost use Rattle.monitor_run.specs.Report.{guest_text, guest_texts, fault_line as fault_line_of};
+ghost use Rattle.monitor_run.specs.Counted.{sums_of as sums_in};
+ghost use Rattle.monitor_run.specs.Report.{numbered, guest_text, sums_line as sums_line_of, sums_text, record_text, alone_text};
+ghost use Rattle.monitor_run.specs.FaultLines.{fault_line as fault_line_of};
 
-use crate::Fault;
-use crate::report::{console_line, end_line, fault_line};
+use crate::fault_lines::fault_line;
+use crate::report::{console_line, end_line, sums_line};
+use crate::sums::sums_of;
+use crate::{Alone, Fault};
+use base_words::{Bytes, End};
+use event_journal::Journal;
 use guest_core::GuestRecord;
 use outside_io::{Sink, SinkFault};
 use std::alloc::Global;
@@ -34,31 +40,73 @@ fn put_three<K: Sink>(
     }
 }
 
-/// Puts a guest's text.
+/// Puts a guest's text: what it printed, and how it ended.
 fn put_guest<K: Sink>(
     alloc: Global,
     sink: &mut K,
     number: usize,
-    guest: &GuestRecord,
+    console: &Bytes,
+    end: End,
 ) -> Result<(), SinkFault>
-    ensures { Puts (K.view sink.old) (K.view sink.new) (guest_text number guest.now) result }
+    ensures { Puts (K.view sink.old) (K.view sink.new) (guest_text number console.now end) result }
 {
-    let head = console_line(alloc, number, guest.console.len())?;
-    let end = end_line(alloc, guest.end)?;
-    put_three(
-        sink,
-        head.as_bytes(),
-        guest.console.as_slice(),
-        end.as_bytes(),
-    )
+    let head = console_line(alloc, number, console.len())?;
+    let end = end_line(alloc, end)?;
+    put_three(sink, head.as_bytes(), console.as_slice(), end.as_bytes())
 }
 
-/// Puts the guests' texts, in order.
-fn put_guests<K: Sink>(alloc: Global, sink: &mut K, guests: &[GuestRecord]) -> Result<(), SinkFault>
-    ensures { Puts (K.view sink.old) (K.view sink.new) (guest_texts 0 guests.now) result }
+/// Puts the line of a guest's sums.
+fn put_line<K: Sink>(alloc: Global, sink: &mut K, journal: &Journal) -> Result<(), SinkFault>
+    ensures { Puts (K.view sink.old) (K.view sink.new) (sums_line_of (sums_in journal.now.entries)) result }
+{
+    let sums = sums_of(alloc, journal)?;
+    let line = sums_line(alloc, &sums)?;
+    sink.put(line.as_bytes())
+}
+
+/// Puts the line of a guest's sums, where there is to be one.
+fn put_sums<K: Sink>(
+    alloc: Global,
+    sink: &mut K,
+    sums: bool,
+    journal: &Journal,
+) -> Result<(), SinkFault>
+    ensures { Puts (K.view sink.old) (K.view sink.new) (sums_text sums journal.now.entries) result }
+{
+    if sums {
+        put_line(alloc, sink, journal)
+    } else {
+        Ok(())
+    }
+}
+
+/// Puts the text of a guest under the monitor.
+fn put_record<K: Sink>(
+    alloc: Global,
+    sink: &mut K,
+    sums: bool,
+    number: usize,
+    guest: &GuestRecord,
+) -> Result<(), SinkFault>
+    ensures { Puts (K.view sink.old) (K.view sink.new) (record_text sums number guest.now) result }
+{
+    match put_guest(alloc, sink, number, &guest.console, guest.end) {
+        Ok(()) => put_sums(alloc, sink, sums, &guest.journal),
+        Err(fault) => Err(fault),
+    }
+}
+
+/// Puts the texts of guests under the monitor, in order.
+fn put_records<K: Sink>(
+    alloc: Global,
+    sink: &mut K,
+    sums: bool,
+    guests: &[GuestRecord],
+) -> Result<(), SinkFault>
+    ensures { Puts (K.view sink.old) (K.view sink.new) (numbered (record_text sums) 0 guests.now) result }
 {
     for (number, guest) in guests.iter().enumerate() {
-        match put_guest(alloc, sink, number, guest) {
+        match put_record(alloc, sink, sums, number, guest) {
             Ok(()) => {}
             Err(fault) => return Err(fault),
         }
@@ -66,11 +114,39 @@ fn put_guests<K: Sink>(alloc: Global, sink: &mut K, guests: &[GuestRecord]) -> R
     Ok(())
 }
 
-/// Puts the report of some guests, and settles it.
-pub fn render<K: Sink>(alloc: Global, sink: &mut K, guests: &[GuestRecord]) -> Result<(), SinkFault>
-    ensures { Writes (K.view sink.old) (K.view sink.new) (guest_texts 0 guests.now) result }
+/// Puts the texts of guests that ran alone, in order.
+fn put_alone<K: Sink>(alloc: Global, sink: &mut K, guests: &[Alone]) -> Result<(), SinkFault>
+    ensures { Puts (K.view sink.old) (K.view sink.new) (numbered alone_text 0 guests.now) result }
 {
-    match put_guests(alloc, sink, guests) {
+    for (number, guest) in guests.iter().enumerate() {
+        match put_guest(alloc, sink, number, &guest.console, guest.end) {
+            Ok(()) => {}
+            Err(fault) => return Err(fault),
+        }
+    }
+    Ok(())
+}
+
+/// Puts the report of guests under the monitor, with their sums or without, and settles it.
+pub fn render<K: Sink>(
+    alloc: Global,
+    sink: &mut K,
+    sums: bool,
+    guests: &[GuestRecord],
+) -> Result<(), SinkFault>
+    ensures { Writes (K.view sink.old) (K.view sink.new) (numbered (record_text sums) 0 guests.now) result }
+{
+    match put_records(alloc, sink, sums, guests) {
+        Ok(()) => sink.finish(),
+        Err(fault) => Err(fault),
+    }
+}
+
+/// Puts the report of guests that ran alone, and settles it.
+pub fn render_alone<K: Sink>(alloc: Global, sink: &mut K, guests: &[Alone]) -> Result<(), SinkFault>
+    ensures { Writes (K.view sink.old) (K.view sink.new) (numbered alone_text 0 guests.now) result }
+{
+    match put_alone(alloc, sink, guests) {
         Ok(()) => sink.finish(),
         Err(fault) => Err(fault),
     }

@@ -1,10 +1,9 @@
-//! The printed texts.
+//! The lines of a report.
 ghost use Rattle.std.specs.Prelude.{◌≡◌, string_bytes, IfOk};
-ghost use Rattle.monitor_run.specs.Report.{console_line as console_line_of, end_line as end_line_of, end_text as end_text_of, fault_line as fault_line_of, image_fault_text as image_fault_text_of};
+ghost use Rattle.monitor_run.specs.Report.{console_line as console_line_of, end_line as end_line_of, end_text as end_text_of, step_sums as step_sums_of, share_sums as share_sums_of, sums_line as sums_line_of};
 
-use crate::Fault;
+use crate::Sums;
 use base_words::End;
-use elf_image::ImageFault;
 use std::alloc::{AllocError, Global};
 
 /// How a guest ended.
@@ -37,47 +36,37 @@ pub fn end_line(alloc: Global, end: End) -> Result<String, AllocError>
     format!(in alloc; "\nend {text}\n")
 }
 
-/// Why an image is refused.
-fn image_fault_text(alloc: Global, fault: ImageFault) -> Result<String, AllocError>
-    ensures { IfOk result (λ text. string_bytes text ≡ image_fault_text_of fault) }
+/// The sums of a guest's steps and moves.
+fn step_sums(alloc: Global, sums: &Sums) -> Result<String, AllocError>
+    ensures { IfOk result (λ text. string_bytes text ≡ step_sums_of sums.now) }
 {
-    match fault {
-        ImageFault::Short => String::from_str(alloc, "short"),
-        ImageFault::Magic => String::from_str(alloc, "magic"),
-        ImageFault::Class => String::from_str(alloc, "class"),
-        ImageFault::Order => String::from_str(alloc, "order"),
-        ImageFault::Version => String::from_str(alloc, "version"),
-        ImageFault::Kind => String::from_str(alloc, "kind"),
-        ImageFault::Processor => String::from_str(alloc, "processor"),
-        ImageFault::Headers => String::from_str(alloc, "headers"),
-        ImageFault::Interp => String::from_str(alloc, "interp"),
-        ImageFault::Segment(segment) => format!(in alloc; "segment {segment}"),
-        ImageFault::Place(segment) => format!(in alloc; "place {segment}"),
-        ImageFault::Overlap(one, other) => format!(in alloc; "overlap {one} {other}"),
-        ImageFault::Entry => String::from_str(alloc, "entry"),
-        ImageFault::Memory => String::from_str(alloc, "memory"),
-    }
+    let steps = sums.steps;
+    let refills = sums.refills;
+    let moves = sums.moves;
+    let skips = sums.skips;
+    format!(in alloc; "sums steps {steps} refills {refills} moves {moves} skips {skips}")
 }
 
-/// The line of a refusal.
-pub fn fault_line(alloc: Global, fault: &Fault) -> Result<String, AllocError>
-    ensures { IfOk result (λ line. string_bytes line ≡ fault_line_of fault.now) }
+/// The sums of what a guest shares and receives.
+fn share_sums(alloc: Global, sums: &Sums) -> Result<String, AllocError>
+    ensures { IfOk result (λ text. string_bytes text ≡ share_sums_of sums.now) }
 {
-    match fault {
-        Fault::Words => String::from_str(alloc, "fault words\n"),
-        Fault::Read(name) => {
-            let name = name.as_str();
-            format!(in alloc; "fault read {name}\n")
-        }
-        Fault::Long(name) => {
-            let name = name.as_str();
-            format!(in alloc; "fault long {name}\n")
-        }
-        Fault::BadImage(guest, fault) => {
-            let number = guest.0;
-            let text = image_fault_text(alloc, *fault)?;
-            let text = text.as_str();
-            format!(in alloc; "fault image {number} {text}\n")
-        }
-    }
+    let breaks = sums.breaks;
+    let shared = sums.shared;
+    let received = sums.received;
+    let discarded = sums.discarded;
+    format!(in alloc;
+        " breaks {breaks} shared {shared} received {received} discarded {discarded}\n"
+    )
+}
+
+/// The line of a guest's sums.
+pub fn sums_line(alloc: Global, sums: &Sums) -> Result<String, AllocError>
+    ensures { IfOk result (λ line. string_bytes line ≡ sums_line_of sums.now) }
+{
+    let steps = step_sums(alloc, sums)?;
+    let shares = share_sums(alloc, sums)?;
+    let steps = steps.as_str();
+    let shares = shares.as_str();
+    format!(in alloc; "{steps}{shares}")
 }

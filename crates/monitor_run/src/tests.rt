@@ -10,7 +10,7 @@ use std::test::Fail;
 use std::thread::Threads;
 
 /// LUI 1, CFFF; ORI 1, 1, F000; ADDIU 2, 0, 41; SW 2, 0(1); SW 2, 4(1): prints A and halts.
-const PRINTS_A: [u8; 20] = [
+pub(crate) const PRINTS_A: [u8; 20] = [
     0x3C, 0x01, 0xCF, 0xFF, 0x34, 0x21, 0xF0, 0x00, 0x24, 0x02, 0x00, 0x41, 0xAC, 0x22, 0x00, 0x00,
     0xAC, 0x22, 0x00, 0x04,
 ];
@@ -64,8 +64,23 @@ fn shelf_of(alloc: Global, file: &[u8], fails: &[u64]) -> Result<MemShelf, Alloc
     Ok(MemShelf::new(alloc, files, CallList::from_vec(fails.to_vec(alloc)?)))
 }
 
+/// A file of words, each of its parts from a place on, with zeros between them.
+pub(crate) fn file_of_parts(
+    alloc: Global,
+    parts: &[(usize, &[u32])],
+) -> Result<Vec<u8>, AllocError> {
+    let mut file = Vec::new(alloc);
+    for (at, words) in parts {
+        file.resize(*at, 0u8)?;
+        for word in *words {
+            file.extend_from_slice(&word.to_be_bytes())?;
+        }
+    }
+    Ok(file)
+}
+
 /// The words as the system gives them.
-fn words_of(alloc: Global, words: &[&str]) -> Result<Vec<String>, AllocError> {
+pub(crate) fn words_of(alloc: Global, words: &[&str]) -> Result<Vec<String>, AllocError> {
     let mut all = Vec::new(alloc);
     for word in words {
         all.push(String::from_str(alloc, word)?)?;

@@ -1,14 +1,19 @@
 //! The top call.
-ghost use Rattle.std.specs.Prelude.{◌≡◌, Ok, Err};
-ghost use Rattle.monitor_run.specs.Words.{texts};
-ghost use Rattle.monitor_run.specs.Report.{status_of as status_of_fault};
-ghost use Rattle.monitor_run.specs.Reads.{job_seen};
-ghost use Rattle.monitor_run.specs.Headline.{Answers, Ends, Tells, nothing};
+ghost use Rattle.std.specs.Prelude.{◌≡◌, None, Ok};
+ghost use Rattle.machine_desc.specs.Described.{described_seen};
+ghost use Rattle.admission.specs.Jobs.{Monitored, Alone};
+ghost use Rattle.admission.specs.Ready.{IsReady, IsSetup};
+ghost use Rattle.admission.specs.Unbuilt.{unbuilt};
+ghost use Rattle.admission.specs.Views.{job_seen, starts_of};
+ghost use Rattle.admission.specs.Words.{texts};
+ghost use Rattle.monitor_run.specs.Ends.{Ends, Tells, nothing, status_put};
+ghost use Rattle.monitor_run.specs.FaultLines.{status_of as status_of_fault};
+ghost use Rattle.monitor_run.specs.Headline.{Answers};
 
-use crate::admission::admit;
-use crate::render::{render, render_fault};
-use crate::runner::run_raw;
-use crate::{Fault, Job, Refusal};
+use crate::monitored::run_monitored;
+use crate::private_run::run_alone;
+use crate::render::{render, render_alone, render_fault};
+use admission::{Fault, Job, Refusal, Setup, admit};
 use guest_core::RunRecord;
 use outside_io::{Gate, Shelf, Sink, SinkFault};
 use std::alloc::Global;
@@ -29,8 +34,21 @@ fn status_of(fault: &Fault) -> u8
     match fault {
         Fault::Words => 2,
         Fault::Read(_) => 3,
+        Fault::Description(_) | Fault::Unbuilt(_) => 5,
         Fault::BadImage(_, _) => 6,
+        Fault::Admission { .. } => 7,
         Fault::Long(_) => 8,
+    }
+}
+
+/// The exit status of a job that is done, by what became of its report.
+fn status_of_report(put: Result<(), SinkFault>) -> u8
+    ensures { result ≡ status_put put }
+{
+    match put {
+        Ok(()) => DONE,
+        Err(SinkFault::Failed) => WRITE,
+        Err(SinkFault::Memory) => MEMORY,
     }
 }
 
@@ -44,32 +62,61 @@ fn tell<K: Sink>(alloc: Global, fault: &Fault, sink: &mut K) -> u8
     }
 }
 
-/// Carries a job out, and keeps and reports its record.
-fn carry_out<K: Sink, G: Gate>(
+/// Runs guests under the monitor, and keeps and reports their record.
+fn carry_out<R: Threads + Wait + Sync, K: Sink, G: Gate>(
+    rt: &R,
+    alloc: Global,
+    setup: Setup,
+    sums: bool,
+    sink: &mut K,
+    gate: &G,
+    out: &mut RunRecord,
+) -> u8
+    requires setup { IsSetup setup }
+    requires built { unbuilt (described_seen setup.machine setup.plan) ≡ None }
+    requires empty { out.old ≡ nothing }
+    ensures { Ends (Ok (Monitored (described_seen setup.machine setup.plan) (starts_of setup) sums)) (K.view sink.old) (K.view sink.new) out.new result }
+{
+    match run_monitored(rt, alloc, setup, gate) {
+        Ok(record) => *out = record,
+        Err(_) => return MEMORY,
+    }
+    status_of_report(render(alloc, sink, sums, out.guests.as_slice()))
+}
+
+/// Runs guests alone, and reports what they leave. No record is kept.
+fn carry_out_alone<K: Sink>(alloc: Global, setup: &Setup, sink: &mut K) -> u8
+    requires { IsSetup setup.now }
+    ensures { Ends (Ok (Alone (described_seen setup.now.machine setup.now.plan) (starts_of setup.now))) (K.view sink.old) (K.view sink.new) nothing result }
+{
+    let Ok(left) = run_alone(alloc, setup) else {
+        return MEMORY;
+    };
+    status_of_report(render_alone(alloc, sink, left.as_slice()))
+}
+
+/// Carries a job out.
+fn carry_out_job<R: Threads + Wait + Sync, K: Sink, G: Gate>(
+    rt: &R,
     alloc: Global,
     job: Job,
     sink: &mut K,
     gate: &G,
     out: &mut RunRecord,
 ) -> u8
-    requires { out.old ≡ nothing }
+    requires ready { IsReady job }
+    requires empty { out.old ≡ nothing }
     ensures { Ends (Ok (job_seen job)) (K.view sink.old) (K.view sink.new) out.new result }
 {
-    let Job::Monitored { image, steps } = job;
-    match run_raw(alloc, &image, steps, gate) {
-        Ok(record) => *out = record,
-        Err(_) => return MEMORY,
-    }
-    match render(alloc, sink, out.guests.as_slice()) {
-        Ok(()) => DONE,
-        Err(SinkFault::Failed) => WRITE,
-        Err(SinkFault::Memory) => MEMORY,
+    match job {
+        Job::Monitored { setup, sums } => carry_out(rt, alloc, setup, sums, sink, gate, out),
+        Job::Alone(setup) => carry_out_alone(alloc, &setup, sink),
     }
 }
 
 /// Does what the words ask for, with the shelf's files, and answers the exit status. `out` keeps the record of a run.
 pub fn disco<R: Threads + Wait + Sync, S: Shelf, K: Sink, G: Gate>(
-    _rt: &R,
+    rt: &R,
     alloc: Global,
     words: &[String],
     shelf: &mut S,
@@ -81,7 +128,7 @@ pub fn disco<R: Threads + Wait + Sync, S: Shelf, K: Sink, G: Gate>(
     ensures { Answers (texts words.now) (S.view shelf.old) (S.view shelf.new) (K.view sink.old) (K.view sink.new) out.new result }
 {
     match admit(alloc, words, shelf) {
-        Ok(job) => carry_out(alloc, job, sink, gate, out),
+        Ok(job) => carry_out_job(rt, alloc, job, sink, gate, out),
         Err(Refusal::Fault(fault)) => tell(alloc, &fault, sink),
         Err(Refusal::Memory) => MEMORY,
     }

@@ -4,7 +4,8 @@ use Rattle.admission.specs.declared.faults.Fault.{Fault}
 use Rattle.admission.specs.Chain.{◌>>=◌}
 use Rattle.admission.specs.Jobs.{Job, checks, job_from}
 use Rattle.admission.specs.Views.{job_seen, starts_of, starts_seen}
-use Rattle.admission.proofs.ReadyLemmas.{IsReady-from, job_seen-from}
+use Rattle.admission.specs.Started.{AreStarted}
+use Rattle.admission.proofs.ReadyLemmas.{IsReady-from, job_seen-from, checks-fits}
 use Rattle.admission.proofs.job.checked.Goals as goal
 
 pub returns-clause-ready : goal.returns-clause-ready
@@ -15,6 +16,8 @@ returns-clause-ready c =
       described = rw (made.machine, made.plan) c.requires.described;
       images = made.images ∙ (c.requires.count.images ∙ rw made.machine refl);
       numbers = made.numbers ∙ (c.requires.count.disks ∙ rw made.machine refl);
+      started = rw (made.machine, made.starts) c.requires.started;
+      fits = rw made.machine (checks-fits c.args.alone (described_seen c.args.machine c.args.plan) passed);
     }) (rw (made.machine, made.plan) passed))
 
 pub returns-clause-gives : goal.returns-clause-gives

@@ -5,13 +5,13 @@ pub returns-clause-words : goal.returns-clause-words
 returns-clause-words c = words_status
 
 pub returns-clause-only_words : goal.returns-clause-only_words
-returns-clause-only_words c = only_words_status
+returns-clause-only_words c = λ w a b x y out status answers. only_words_status w a b x y out status answers (λ files. c.told.ensures.words w files)
 
 pub returns-clause-told : goal.returns-clause-told
-returns-clause-told c = told_status
+returns-clause-told c = λ w a b x y out status files answers. told_status w a b x y out status answers (c.steady.ensures w) files
 
 pub returns-clause-absent : goal.returns-clause-absent
-returns-clause-absent c = absent_status
+returns-clause-absent c = λ w a b x y out status files name answers are. absent_status w a b x y out status answers (c.steady.ensures w) files are name
 
 pub returns-clause-only_read : goal.returns-clause-only_read
 returns-clause-only_read c = only_read_status

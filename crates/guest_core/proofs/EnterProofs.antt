@@ -1,0 +1,104 @@
+-- A turn's entries, and what is kept after them.
+use Rattle.std.proofs.Common.{◌≡◌, inl, ℕ, ◌<◌, ◌==◌, Bool, true, false, List, [], ◌∷◌, ◌++◌, Option, Some, None, length, refl, sym, ap, ◌∙◌, if◌then◌else◌, subst}
+use Rattle.std.proofs.lemmas.Bool.{eqb-true}
+use Rattle.std.proofs.lemmas.List.{append_assoc}
+use Rattle.base_words.specs.declared.events.Event.{Event}
+use Rattle.base_words.specs.declared.events.Event.TheVariants.{Direct, Refill, Emulate, End as Ending}
+use Rattle.base_words.specs.declared.events.End.TheVariants.{Halted as ByHalt}
+use Rattle.base_words.specs.declared.ids.ProcId.{ProcId}
+use Rattle.base_words.specs.declared.ids.VcpuId.{VcpuId}
+use Rattle.base_words.specs.declared.moves.Policy.{Policy}
+use Rattle.shootdown.specs.declared.notes.Note.TheVariants.{Made}
+use Rattle.shootdown.specs.declared.view.SidedNote.{SidedNote}
+use Rattle.shootdown.specs.Notes.{sided}
+use Rattle.isolation_law.specs.GuestState.{GuestState, processor, vcpu_of}
+use Rattle.isolation_law.specs.MachineEvent.{Row}
+use Rattle.isolation_law.specs.Phases.{all_halted, GoesOn}
+use Rattle.isolation_law.specs.RefillRow.{Refills}
+use Rattle.isolation_law.specs.Run.{Run}
+use Rattle.isolation_law.specs.Start.{Boot}
+use Rattle.isolation_law.specs.StepRows.{Steps, Emulates}
+use Rattle.guest_core.specs.GuestCalls.{step_entries, end_of, Makes, TurnsEmulate}
+use Rattle.guest_core.specs.GuestView.{Monitored, loaded_count}
+use Rattle.guest_core.specs.Kept.{Kept}
+use Rattle.guest_core.specs.TurnParts.{Concludes}
+use Rattle.guest_core.proofs.KeptProofs.{Laws, IsOff, kept-one, kept-none, direct-leaves, refill-leaves, emulate-leaves, emulate-end, end-leaves, as-many}
+
+same-if : (b : Bool) (l : Option ℕ) → l ≡ (if b then l else l)
+same-if true l = refl
+same-if false l = refl
+
+-- a note of a step is of the virtual processor that made it, which ran
+fresh : (s : GuestState) (v : VcpuId) → s.end ≡ None → (vcpu_of s v.0).halted ≡ false → (u : ℕ) → (v.0 == u) ≡ true → (s.end ≡ None) × ((vcpu_of s u).halted ≡ false)
+fresh s v on runs u e = (on, subst (λ (k : ℕ). (vcpu_of s k).halted ≡ false) (eqb-true v.0 u e) runs)
+
+pub kept-direct : Laws → (b : Boot) (s t : GuestState) (journal : List Event) (notes : List SidedNote) (p : ProcId) (v : VcpuId) → IsOff b.around.policy → Kept b s journal notes → p.0 < length s.processors
+    → Steps s p.0 v.0 t → t.dead ≡ s.dead → Kept b t (journal ++ Direct p v ∷ []) (notes ++ sided p.0 (Made (Direct p v)) ∷ [])
+kept-direct w b s t journal notes p v off k there row dead =
+    kept-one w b s t journal notes (Direct p v) (sided p.0 (Made (Direct p v))) k
+    (direct-leaves s t p v row dead (subst (λ (x : Policy). IsOff x) (sym (ap (λ a. a.policy) k.around)) off) k.nothing_due) there refl tt
+    (record { steps = fresh s v row.goes_on.not_ended row.runs.running }) (λ r. same-if (p.0 == r) (processor s r).loaded)
+
+pub kept-refill : Laws → (b : Boot) (s t : GuestState) (journal : List Event) (notes : List SidedNote) (p : ProcId) → Kept b s journal notes → Refills s p.0 t → t.dead ≡ s.dead → Kept b t (journal ++ Refill p ∷ []) notes
+kept-refill w b s t journal notes p k row dead = kept-none w b s t journal notes (Refill p) k (refill-leaves s t p row dead k.nothing_due) refl (λ r. refl)
+
+-- a step by the monitor's hand, and the end where it halted the last virtual processor
+concluded : (halted : Bool) → Laws → (b : Boot) (m t : GuestState) (journal : List Event) (notes : List SidedNote) (p : ProcId) (v : VcpuId) → Kept b m (journal ++ Emulate p v ∷ []) notes → m.end ≡ None → Concludes halted m t → t.dead ≡ m.dead
+    → Kept b t (journal ++ step_entries p v halted) notes
+concluded false w b m t journal notes p v k on is dead = subst (λ (x : GuestState). Kept b x (journal ++ Emulate p v ∷ []) notes) (sym is) k
+concluded true w b m t journal notes p v k on is dead =
+    subst (λ (j : List Event). Kept b t j notes) (append_assoc journal (Emulate p v ∷ []) (Ending ByHalt ∷ []))
+    (kept-none w b m t (journal ++ Emulate p v ∷ []) notes (Ending ByHalt) k (end-leaves m t ByHalt on is dead k.nothing_due) refl (λ r. refl))
+
+pub kept-emulate : Laws → (b : Boot) (s m t : GuestState) (journal : List Event) (notes : List SidedNote) (p : ProcId) (v : VcpuId) → Kept b s journal notes → p.0 < length s.processors → Emulates s p.0 v.0 m → m.dead ≡ s.dead → t.dead ≡ m.dead
+    → (halted : Bool) → Concludes halted m t → Kept b t (journal ++ step_entries p v halted) (notes ++ sided p.0 (Made (Emulate p v)) ∷ [])
+kept-emulate w b s m t journal notes p v k there row dead dead' halted is =
+    concluded halted w b m t journal (notes ++ sided p.0 (Made (Emulate p v)) ∷ []) p v
+    (kept-one w b s m journal notes (Emulate p v) (sided p.0 (Made (Emulate p v))) k (emulate-leaves s m p v row dead k.nothing_due) there refl tt
+    (record { steps = fresh s v row.traps.goes_on.not_ended row.traps.runs.running }) (λ r. same-if (p.0 == r) (processor s r).loaded))
+    (emulate-end s m p.0 v.0 row) is dead'
+
+-- ---- what is kept, told of the journal and the notes that there are
+
+pub of-these : (b : Boot) (s : GuestState) (journal journal' : List Event) (notes notes' : List SidedNote) → journal' ≡ journal → notes' ≡ notes → Kept b s journal notes → Kept b s journal' notes'
+of-these b s journal journal' notes notes' j n k = subst (λ (l : List Event). Kept b s l notes') (sym j) (subst (λ (l : List SidedNote). Kept b s journal l) (sym n) k)
+
+-- ---- how far the guest is
+
+pub goes-on : (halted : Bool) (m t : GuestState) → all_halted m.vcpus ≡ halted → m.end ≡ None → m.closing ≡ None → Concludes halted m t → t.end ≡ None → GoesOn t
+goes-on true m t all on none is on-then = absurd (no (sym (ap (λ (x : GuestState). x.end) is.after) ∙ on-then))
+  where
+    no : Some ByHalt ≡ None → ⊥
+    no e = cc
+goes-on false m t all on none is on-then = subst GoesOn (sym is) (record { not_ended = on; owes_no_end = ap (λ (b : Bool). if b then Some ByHalt else m.closing) all ∙ none })
+
+pub same-vcpus : (halted : Bool) (m t : GuestState) → Concludes halted m t → t.vcpus ≡ m.vcpus
+same-vcpus true m t is = ap (λ (x : GuestState). x.vcpus) is.after
+same-vcpus false m t is = ap (λ (x : GuestState). x.vcpus) is
+
+pub ends-so : (halted : Bool) (m t : GuestState) → m.end ≡ None → Concludes halted m t → t.end ≡ end_of halted
+ends-so true m t on is = ap (λ (x : GuestState). x.end) is.after
+ends-so false m t on is = ap (λ (x : GuestState). x.end) is ∙ on
+
+pub same-loads : (halted : Bool) → Laws → (m t : GuestState) → Concludes halted m t → loaded_count t ≡ loaded_count m
+same-loads true w m t is = as-many w m t (Ending ByHalt) is (λ r. refl)
+same-loads false w m t is = ap loaded_count is
+
+-- ---- what a turn made
+
+pub one-row : (s t : GuestState) (e : Event) → Row s e t → Run s (e ∷ []) t
+one-row s t e row = (s, t, inl refl, row, inl refl)
+
+step-run : (halted : Bool) (s m t : GuestState) (p : ProcId) (v : VcpuId) → Emulates s p.0 v.0 m → Concludes halted m t → Run s (step_entries p v halted) t
+step-run true s m t p v row is = (s, m, inl refl, inl row, (m, t, inl refl, is, inl refl))
+step-run false s m t p v row is = (s, m, inl refl, inl row, inl is)
+
+pub emulate-turn : (halted : Bool) (old new : Monitored) (m : GuestState) (p : ProcId) (v : VcpuId) → all_halted m.vcpus ≡ halted → Emulates old.state p.0 v.0 m → Concludes halted m new.state
+    → new.journal ≡ old.journal ++ step_entries p v halted → TurnsEmulate old p v new
+emulate-turn halted old new m p v all row is journal =
+    let same : all_halted new.state.vcpus ≡ halted = ap all_halted (same-vcpus halted m new.state is) ∙ all in
+    let done : Makes old (step_entries p v halted) new = record { journal = journal; run = step-run halted old.state m new.state p v row is } in
+    record {
+      makes = subst (λ (h : Bool). Makes old (step_entries p v h) new) (sym same) done;
+      end = ends-so halted m new.state (emulate-end old.state m p.0 v.0 row) is ∙ ap end_of (sym same);
+    }

@@ -1,0 +1,199 @@
+-- What an entry leaves of what the type of a guest keeps.
+use Rattle.std.proofs.Common.{◌≡◌, inl, ℕ, zero, suc, ◌<◌, ◌==◌, if◌then◌else◌, Bool, true, false, List, [], ◌∷◌, ◌++◌, Option, Some, None, option_map, length, map, get_or, set, refl, sym, ap, ◌∙◌, subst}
+use Rattle.std.proofs.lemmas.List.{append-nil}
+use Rattle.base_words.specs.declared.events.Event.{Event}
+use Rattle.base_words.specs.declared.events.Event.TheVariants.{Direct, Refill, Emulate, Load, Unload, End as Ending}
+use Rattle.base_words.specs.declared.events.End.{End}
+use Rattle.base_words.specs.declared.ids.ProcId.{ProcId}
+use Rattle.base_words.specs.declared.ids.VcpuId.{VcpuId}
+use Rattle.base_words.specs.declared.moves.MoveKind.{MoveKind}
+use Rattle.base_words.specs.declared.moves.Policy.{Policy}
+use Rattle.base_words.specs.declared.trap.DataAccess.{DataAccess}
+use Rattle.base_words.specs.declared.trap.DataAccess.TheVariants as at_data
+use Rattle.private_machine.specs.Backing.{Page}
+use Rattle.private_machine.specs.DeviceAct.{Act, StoresTo, ReadsDisk, WritesDisk, SendsPage, WritesEntry, NoAct}
+use Rattle.private_machine.specs.Policy.{Misses, choice}
+use Rattle.shootdown.specs.declared.view.SidedNote.{SidedNote}
+use Rattle.isolation_law.specs.Dues.{without_moving}
+use Rattle.isolation_law.specs.DirectStep.{data_noted, is_miss, misses_after}
+use Rattle.isolation_law.specs.EndRows.{Ends}
+use Rattle.isolation_law.specs.GuestState.{GuestState, processor, vcpu_of, due_on}
+use Rattle.isolation_law.specs.LoadRows.{Loads, Unloads}
+use Rattle.isolation_law.specs.LoadsIn.{loaded_after}
+use Rattle.isolation_law.specs.MachineEvent.{Row}
+use Rattle.isolation_law.specs.Parts.{Wish}
+use Rattle.isolation_law.specs.Policy.{chosen, due_after}
+use Rattle.isolation_law.specs.RefillRow.{Refills}
+use Rattle.isolation_law.specs.Run.{Run}
+use Rattle.isolation_law.specs.Start.{Boot, start as started}
+use Rattle.isolation_law.specs.StepRows.{Steps, Emulates, act_done}
+use Rattle.guest_core.specs.GuestView.{loaded_count}
+use Rattle.guest_core.specs.Kept.{Kept}
+use Rattle.guest_core.specs.Noting.{noted, made_in, HoldsOf, loaded_by_note, IsNoted}
+use Rattle.guest_core.proofs.CountLemmas.{count-same, count-loaded, count-unloaded}
+use Rattle.guest_core.proofs.NoteLemmas.{Keeps, IsFresh, noted-one, noted-none}
+
+-- the laws of a guest on which this stands
+pub record Laws : Type 0 where
+  pub halts : (s t : GuestState) (e : Event) (v : ℕ) → Row s e t → (vcpu_of s v).halted ≡ true → (vcpu_of t v).halted ≡ true
+  pub count : (s t : GuestState) (e : Event) → Row s e t → length t.vcpus ≡ length s.vcpus
+  pub processors : (s t : GuestState) (e : Event) → Row s e t → length t.processors ≡ length s.processors
+  pub loaded : (s t : GuestState) (e : Event) (r : ℕ) → Row s e t → (processor t r).loaded ≡ loaded_after e r (processor s r).loaded
+  pub grows : (s m t : GuestState) (journal : List Event) (e : Event) → Run s journal m → Row m e t → Run s (journal ++ e ∷ []) t
+  pub around : (s t : GuestState) (e : Event) → Row s e t → t.around ≡ s.around
+
+-- the policy is off
+abbrev pub IsOff : Policy → Type 0
+IsOff policy = (policy.migrate ≡ 0) × (policy.replicate ≡ 0)
+
+-- an entry that leaves no choice due, no cell dead, and the end where there was one
+pub record Leaves (s : GuestState) (e : Event) (t : GuestState) : Type 0 where
+  pub row : Row s e t
+  pub dead : t.dead ≡ s.dead
+  pub ends : (end : End) → s.end ≡ Some end → t.end ≡ Some end
+  pub due : (r : ℕ) → due_on t r ≡ None
+
+keeps : Laws → (s t : GuestState) (e : Event) → Leaves s e t → Keeps s t
+keeps w s t e l = record { halts = λ v h. w.halts s t e v l.row h; ends = l.ends; dead = l.dead; count = w.processors s t e l.row }
+
+pub kept-one : Laws → (b : Boot) (s t : GuestState) (journal : List Event) (notes : List SidedNote) (e : Event) (n : SidedNote) → Kept b s journal notes → Leaves s e t
+    → n.side < length s.processors → made_in (n ∷ []) ≡ noted (e ∷ []) → HoldsOf t n.note → IsFresh s n.note
+    → ((r : ℕ) → loaded_after e r (processor s r).loaded ≡ (if n.side == r then loaded_by_note (processor s r).loaded n.note else (processor s r).loaded))
+    → Kept b t (journal ++ e ∷ []) (notes ++ n ∷ [])
+kept-one w b s t journal notes e n k l there made holds fresh loads = record {
+  run = w.grows (started b) s t journal e k.run l.row;
+  noted = noted-one s t journal (e ∷ []) notes n k.noted (keeps w s t e l) there made holds fresh (λ r. w.loaded s t e r l.row ∙ loads r);
+  around = w.around s t e l.row ∙ k.around;
+  nothing_due = l.due;
+  processors = w.processors s t e l.row ∙ k.processors;
+  vcpus = w.count s t e l.row ∙ k.vcpus;
+}
+
+pub kept-none : Laws → (b : Boot) (s t : GuestState) (journal : List Event) (notes : List SidedNote) (e : Event) → Kept b s journal notes → Leaves s e t
+    → noted (e ∷ []) ≡ [] → ((r : ℕ) → loaded_after e r (processor s r).loaded ≡ (processor s r).loaded) → Kept b t (journal ++ e ∷ []) notes
+kept-none w b s t journal notes e k l none loads = record {
+  run = w.grows (started b) s t journal e k.run l.row;
+  noted = noted-none s t journal (e ∷ []) notes k.noted (keeps w s t e l) none (λ r. w.loaded s t e r l.row ∙ loads r);
+  around = w.around s t e l.row ∙ k.around;
+  nothing_due = l.due;
+  processors = w.processors s t e l.row ∙ k.processors;
+  vcpus = w.count s t e l.row ∙ k.vcpus;
+}
+
+-- an answer that is noted, with no entry
+still : (s : GuestState) → Keeps s s
+still s = record { halts = λ v h. h; ends = λ e h. h; dead = refl; count = refl }
+
+pub kept-answer : (b : Boot) (s : GuestState) (journal : List Event) (notes : List SidedNote) (n : SidedNote) → Kept b s journal notes → n.side < length s.processors → made_in (n ∷ []) ≡ [] → HoldsOf s n.note → IsFresh s n.note
+    → ((l : Option ℕ) → loaded_by_note l n.note ≡ l) → Kept b s journal (notes ++ n ∷ [])
+kept-answer b s journal notes n k there none holds fresh same = record {
+  run = k.run;
+  noted = subst (λ j. IsNoted s j (notes ++ n ∷ [])) (append-nil journal) (noted-one s s journal [] notes n k.noted (still s) there none holds fresh (λ r. by (n.side == r) (processor s r).loaded));
+  around = k.around;
+  nothing_due = k.nothing_due;
+  processors = k.processors;
+  vcpus = k.vcpus;
+}
+  where
+    by : (c : Bool) (l : Option ℕ) → l ≡ (if c then loaded_by_note l n.note else l)
+    by true l = sym (same l)
+    by false l = refl
+
+-- ---- what is due
+
+due-set : (dues : List (Option Wish)) (p r : ℕ) → get_or dues r None ≡ None → get_or (set dues p None) r None ≡ None
+due-set [] p r is = refl
+due-set (x ∷ dues) zero zero is = refl
+due-set (x ∷ dues) zero (suc r) is = is
+due-set (x ∷ dues) (suc p) zero is = is
+due-set (x ∷ dues) (suc p) (suc r) is = due-set dues p r is
+
+due-map : (pages : List Page) (dues : List (Option Wish)) (r : ℕ) → get_or dues r None ≡ None → get_or (map (without_moving pages) dues) r None ≡ None
+due-map pages [] r is = refl
+due-map pages (x ∷ dues) zero is = ap (without_moving pages) is
+due-map pages (x ∷ dues) (suc r) is = due-map pages dues r is
+
+-- a policy that is off chooses nothing
+chooses-none : (policy : Policy) (node : ℕ) (m : Misses) → IsOff policy → choice policy node m ≡ None
+chooses-none policy node m off = (λ i. choice (record { migrate = off.0 i; replicate = off.1 i }) node m)
+
+nothing-chosen : (policy : Policy) (q node : ℕ) (m : Misses) → IsOff policy → chosen policy q node m ≡ None
+nothing-chosen policy q node m off = ap (option_map (λ (kind : MoveKind). record { page = q; kind = kind; node = node })) (chooses-none policy node m off)
+
+stays-none : (b : Bool) (wish : Option Wish) → wish ≡ None → (if b then wish else None) ≡ None
+stays-none true wish is = is
+stays-none false wish is = refl
+
+due-noted : (s : GuestState) (p : ℕ) (access : DataAccess) → IsOff s.around.policy → ((r : ℕ) → due_on s r ≡ None) → (r : ℕ) → due_on (data_noted p access s) r ≡ None
+due-noted s p at_data.NoData off none r = none r
+due-noted s p (at_data.Load page frame) off none r =
+    ap (λ wish. get_or (set s.due p (due_after wish (due_on s p))) r None) (stays-none (is_miss s p frame.0) _ (nothing-chosen s.around.policy page.0 _ (misses_after s p page.0 frame.0 false) off))
+    ∙ ap (λ wish. get_or (set s.due p wish) r None) (none p) ∙ due-set s.due p r (none r)
+due-noted s p (at_data.Store page frame) off none r =
+    ap (λ wish. get_or (set s.due p (due_after wish (due_on s p))) r None) (stays-none (is_miss s p frame.0) _ (nothing-chosen s.around.policy page.0 _ (misses_after s p page.0 frame.0 true) off))
+    ∙ ap (λ wish. get_or (set s.due p wish) r None) (none p) ∙ due-set s.due p r (none r)
+
+act-due : (s : GuestState) (p v : ℕ) (act : Act) → (act_done s p v act).due ≡ s.due
+act-due s p v (StoresTo q) = refl
+act-due s p v (ReadsDisk b q) = refl
+act-due s p v (WritesDisk b q) = refl
+act-due s p v (SendsPage q length to) = refl
+act-due s p v (WritesEntry index) = refl
+act-due s p v NoAct = refl
+
+act-end : (s : GuestState) (p v : ℕ) (act : Act) → (act_done s p v act).end ≡ s.end
+act-end s p v (StoresTo q) = refl
+act-end s p v (ReadsDisk b q) = refl
+act-end s p v (WritesDisk b q) = refl
+act-end s p v (SendsPage q length to) = refl
+act-end s p v (WritesEntry index) = refl
+act-end s p v NoAct = refl
+
+-- ---- each entry
+
+none-ended : (s t : GuestState) → s.end ≡ None → (end : End) → s.end ≡ Some end → t.end ≡ Some end
+none-ended s t on end is = absurd (let no : None ≡ Some end = sym on ∙ is in no-some end no)
+  where
+    no-some : (end : End) → None ≡ Some end → ⊥
+    no-some end e = cc
+
+pub load-leaves : (s t : GuestState) (p : ProcId) (v : VcpuId) → Loads s p.0 v.0 t → t.dead ≡ s.dead → ((r : ℕ) → due_on s r ≡ None) → Leaves s (Load p v) t
+load-leaves s t p v row dead none = record { row = row; dead = dead; ends = none-ended s t row.goes_on.not_ended; due = λ r. ap (λ x. due_on x r) row.after ∙ none r }
+
+pub unload-leaves : (s t : GuestState) (p : ProcId) → Unloads s p.0 t → t.dead ≡ s.dead → ((r : ℕ) → due_on s r ≡ None) → Leaves s (Unload p) t
+unload-leaves s t p row dead none = record { row = row; dead = dead; ends = λ end is. ap (λ x. x.end) row.after ∙ is; due = λ r. ap (λ x. due_on x r) row.after ∙ due-set s.due p.0 r (none r) }
+
+pub direct-leaves : (s t : GuestState) (p : ProcId) (v : VcpuId) → Steps s p.0 v.0 t → t.dead ≡ s.dead → IsOff s.around.policy → ((r : ℕ) → due_on s r ≡ None) → Leaves s (Direct p v) t
+direct-leaves s t p v row dead off none = record { row = row; dead = dead; ends = none-ended s t row.goes_on.not_ended; due = λ r. ap (λ x. due_on x r) row.after ∙ due-noted _ p.0 _ off none r }
+
+pub refill-leaves : (s t : GuestState) (p : ProcId) → Refills s p.0 t → t.dead ≡ s.dead → ((r : ℕ) → due_on s r ≡ None) → Leaves s (Refill p) t
+refill-leaves s t p row dead none = record { row = row; dead = dead; ends = none-ended s t row.goes_on.not_ended; due = λ r. ap (λ x. due_on x r) row.after ∙ none r }
+
+pub emulate-leaves : (s t : GuestState) (p : ProcId) (v : VcpuId) → Emulates s p.0 v.0 t → t.dead ≡ s.dead → ((r : ℕ) → due_on s r ≡ None) → Leaves s (Emulate p v) t
+emulate-leaves s t p v row dead none = record {
+  row = inl row;
+  dead = dead;
+  ends = none-ended s t row.traps.goes_on.not_ended;
+  due = λ r. ap (λ x. due_on x r) row.after ∙ ap (λ l. get_or l r None) (act-due s p.0 v.0 _) ∙ none r;
+}
+
+pub emulate-end : (s t : GuestState) (p v : ℕ) → Emulates s p v t → t.end ≡ None
+emulate-end s t p v row = ap (λ x. x.end) row.after ∙ act-end s p v _ ∙ row.traps.goes_on.not_ended
+
+pub end-leaves : (s t : GuestState) (end : End) → s.end ≡ None → Ends s end t → t.dead ≡ s.dead → ((r : ℕ) → due_on s r ≡ None) → Leaves s (Ending end) t
+end-leaves s t end on row dead none = record { row = row; dead = dead; ends = none-ended s t on; due = λ r. ap (λ x. due_on x r) row.after ∙ due-map s.pages s.due r (none r) }
+
+-- ---- what is loaded
+
+pub one-fewer : Laws → (s t : GuestState) (p : ProcId) → Unloads s p.0 t → p.0 < length s.processors → suc (loaded_count t) ≡ loaded_count s
+one-fewer w s t p row lt = by (processor s p.0).loaded refl
+  where
+    by : (l : Option ℕ) → (processor s p.0).loaded ≡ l → suc (loaded_count t) ≡ loaded_count s
+    by None e = absurd (row.loaded e)
+    by (Some v) e = count-unloaded s.processors t.processors p.0 v lt (w.processors s t (Unload p) row) (λ r. w.loaded s t (Unload p) r row) e
+
+pub one-more : Laws → (s t : GuestState) (p : ProcId) (v : VcpuId) → Loads s p.0 v.0 t → loaded_count t ≡ suc (loaded_count s)
+one-more w s t p v row = count-loaded s.processors t.processors p.0 v.0 row.is_processor (w.processors s t (Load p v) row) (λ r. w.loaded s t (Load p v) r row) row.free
+
+pub as-many : Laws → (s t : GuestState) (e : Event) → Row s e t → ((r : ℕ) → loaded_after e r (processor s r).loaded ≡ (processor s r).loaded) → loaded_count t ≡ loaded_count s
+as-many w s t e row same = count-same s.processors t.processors (w.processors s t e row) (λ r. w.loaded s t e r row ∙ same r)

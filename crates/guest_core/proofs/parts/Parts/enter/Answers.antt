@@ -1,0 +1,165 @@
+-- The entry is its row, and the guest is kept.
+use Rattle.std.proofs.Common.{◌≡◌, inl, ℕ, ◌<◌, ◌++◌, [], ◌∷◌, length, Ok, refl, sym, ap, ◌∙◌, subst, arith}
+use Rattle.base_words.specs.declared.events.Event.TheVariants.{Direct, Refill, Emulate}
+use Rattle.base_words.specs.declared.ids.ProcId.{ProcId}
+use Rattle.shootdown.specs.declared.notes.Note.TheVariants.{Made}
+use Rattle.shootdown.specs.Notes.{Seat, Token, sided}
+use Rattle.isolation_law.specs.Phases.{all_halted}
+use Rattle.isolation_law.specs.RefillRow.{Refills}
+use Rattle.isolation_law.specs.StepRows.{Emulates}
+use Rattle.guest_course.specs.CourseView.{state_of}
+use Rattle.guest_course.specs.StepCalls.{StepsDirect}
+use Rattle.guest_core.specs.GuestCalls.{processor_of, step_entries}
+use Rattle.guest_core.specs.GuestView.{guest_of}
+use Rattle.guest_core.specs.TurnParts.{Advances, GoesOnThen}
+use Rattle.guest_core.specs.declared.advancing.Advanced.TheVariants as advances
+use Rattle.guest_core.proofs.KeptProofs.{Laws, as-many}
+use Rattle.guest_core.proofs.EnterProofs.{kept-direct, kept-refill, kept-emulate, of-these, goes-on, same-loads, one-row, emulate-turn}
+use Rattle.guest_core.proofs.KeptProofs.{emulate-end}
+use Rattle.guest_core.proofs.RoomLemmas.{two-entries, less-room, less-calls}
+use Rattle.guest_core.proofs.parts.Parts.enter.Goals as goal
+
+pub returns-in-Direct-clause-kept : goal.returns-in-Direct-clause-kept
+returns-in-Direct-clause-kept c =
+    let old = c.args.self.now in
+    let token : Token = c.args.token.now in
+    let s = state_of old.course in
+    let m = state_of c.advance.new.course in
+    let k = c.requires.kept in
+    let q : ProcId = processor_of token in
+    let v = c.args.vcpu in
+    let same : c.number-processor.result ≡ q = ap (λ (n : ℕ). record { 0 = n }) c.number-processor.ensures in
+    let w : Laws = record { halts = c.halts_stay.ensures.row; count = c.halts_stay.ensures.count; processors = c.halts_stay.ensures.processors; loaded = c.halts_stay.ensures.loaded; grows = c.run_grows.ensures.row; around = c.row_keeps.ensures.around } in
+    let there : q.0 < length s.processors = subst (λ (n : ℕ). q.0 < n) (sym k.kept.processors) c.requires.token.is_processor in
+    let did : StepsDirect s q.0 v.0 m c.in-Direct.access = subst (λ (n : ℕ). Advances s n v.0 m (Ok (advances.Direct c.in-Direct.access))) c.number-processor.ensures (subst (λ a. Advances s c.number-processor.result.0 v.0 m (Ok a)) c.in-Direct.is c.in_ok-access.ensures.advances) in
+    let kept = kept-direct w old.start s m old.journal.entries old.seat.notes q v k.no_policy k.kept there did.row refl in
+    let loads = as-many w s m (Direct q v) did.row (λ r. refl) in
+    let room = two-entries _ _ _ c.requires.room in
+    record {
+      sound = c.advance.ensures.sound;
+      seat = ap (λ (x : Seat). x.number) c.note.ensures.seat ∙ k.seat;
+      kept = of-these old.start m _ _ _ _ (c.push_direct.ensures.entries ∙ ap (λ (p : ProcId). old.journal.entries ++ Direct p v ∷ []) same) (ap (λ (x : Seat). x.notes) c.note.ensures.seat ∙ ap (λ (p : ProcId). old.seat.notes ++ sided q.0 (Made (Direct p v)) ∷ []) same) kept;
+      goes_on = λ on. subst (λ a. GoesOnThen m (Ok a)) c.in-Direct.is c.in_ok-access.ensures.goes_on;
+      no_policy = k.no_policy;
+      unloads = omega (arith, loads, room, c.push_direct.ensures.room);
+    }
+
+pub returns-in-Direct-clause-learns : goal.returns-in-Direct-clause-learns
+returns-in-Direct-clause-learns c =
+    let old = c.args.self.now in
+    let token : Token = c.args.token.now in
+    let v = c.args.vcpu in
+    let same : c.number-processor.result ≡ processor_of token = ap (λ (n : ℕ). record { 0 = n }) c.number-processor.ensures in
+    record {
+      seat = ap (λ (x : Seat). x.notes) c.note.ensures.seat ∙ ap (λ (p : ProcId). old.seat.notes ++ sided token.number (Made (Direct p v)) ∷ []) same;
+      token_is = c.note.ensures.token ∙ ap (λ (p : ProcId). record token { notes = token.notes ++ sided old.seat.number (Made (Direct p v)) ∷ [] }) same ∙ ap (λ (n : ℕ). record token { notes = token.notes ++ sided n (Made (Direct (processor_of token) v)) ∷ [] }) c.requires.kept.seat;
+    }
+
+pub returns-in-Refill-clause-kept : goal.returns-in-Refill-clause-kept
+returns-in-Refill-clause-kept c =
+    let old = c.args.self.now in
+    let token : Token = c.args.token.now in
+    let s = state_of old.course in
+    let m = state_of c.advance.new.course in
+    let k = c.requires.kept in
+    let q : ProcId = processor_of token in
+    let v = c.args.vcpu in
+    let same : c.number-processor.result ≡ q = ap (λ (n : ℕ). record { 0 = n }) c.number-processor.ensures in
+    let w : Laws = record { halts = c.halts_stay.ensures.row; count = c.halts_stay.ensures.count; processors = c.halts_stay.ensures.processors; loaded = c.halts_stay.ensures.loaded; grows = c.run_grows.ensures.row; around = c.row_keeps.ensures.around } in
+    let there : q.0 < length s.processors = subst (λ (n : ℕ). q.0 < n) (sym k.kept.processors) c.requires.token.is_processor in
+    let did : Refills s q.0 m = subst (λ (n : ℕ). Advances s n v.0 m (Ok advances.Refill)) c.number-processor.ensures (subst (λ a. Advances s c.number-processor.result.0 v.0 m (Ok a)) c.in-Refill.is c.in_ok-access.ensures.advances) in
+    let kept = kept-refill w old.start s m old.journal.entries old.seat.notes q k.kept did refl in
+    let loads = as-many w s m (Refill q) did (λ r. refl) in
+    let room = two-entries _ _ _ c.requires.room in
+    record {
+      sound = c.advance.ensures.sound;
+      seat = k.seat;
+      kept = of-these old.start m _ _ _ _ (c.push.ensures.entries ∙ ap (λ (p : ProcId). old.journal.entries ++ Refill p ∷ []) same) refl kept;
+      goes_on = λ on. subst (λ a. GoesOnThen m (Ok a)) c.in-Refill.is c.in_ok-access.ensures.goes_on;
+      no_policy = k.no_policy;
+      unloads = omega (arith, loads, room, c.push.ensures.room);
+    }
+
+pub returns-in-Refill-clause-turns : goal.returns-in-Refill-clause-turns
+returns-in-Refill-clause-turns c =
+    let old = c.args.self.now in
+    let token : Token = c.args.token.now in
+    let s = state_of old.course in
+    let m = state_of c.advance.new.course in
+    let q : ProcId = processor_of token in
+    let v = c.args.vcpu in
+    let same : c.number-processor.result ≡ q = ap (λ (n : ℕ). record { 0 = n }) c.number-processor.ensures in
+    let did : Refills s q.0 m = subst (λ (n : ℕ). Advances s n v.0 m (Ok advances.Refill)) c.number-processor.ensures (subst (λ a. Advances s c.number-processor.result.0 v.0 m (Ok a)) c.in-Refill.is c.in_ok-access.ensures.advances) in
+    record { journal = c.push.ensures.entries ∙ ap (λ (p : ProcId). old.journal.entries ++ Refill p ∷ []) same; run = one-row s m (Refill q) did }
+
+pub returns-in-Emulate-clause-kept : goal.returns-in-Emulate-clause-kept
+returns-in-Emulate-clause-kept c =
+    let old = c.args.self.now in
+    let token : Token = c.args.token.now in
+    let s = state_of old.course in
+    let m = state_of c.advance.new.course in
+    let k = c.requires.kept in
+    let q : ProcId = processor_of token in
+    let v = c.args.vcpu in
+    let same : c.number-processor.result ≡ q = ap (λ (n : ℕ). record { 0 = n }) c.number-processor.ensures in
+    let w : Laws = record { halts = c.halts_stay.ensures.row; count = c.halts_stay.ensures.count; processors = c.halts_stay.ensures.processors; loaded = c.halts_stay.ensures.loaded; grows = c.run_grows.ensures.row; around = c.row_keeps.ensures.around } in
+    let there : q.0 < length s.processors = subst (λ (n : ℕ). q.0 < n) (sym k.kept.processors) c.requires.token.is_processor in
+    let t = state_of c.conclude.new.course in
+    let halted = all_halted m.vcpus in
+    let did : Emulates s q.0 v.0 m = subst (λ (n : ℕ). Advances s n v.0 m (Ok advances.Emulate)) c.number-processor.ensures (subst (λ a. Advances s c.number-processor.result.0 v.0 m (Ok a)) c.in-Emulate.is c.in_ok-access.ensures.advances) in
+    let ends = c.conclude.ensures.concludes in
+    let kept = kept-emulate w old.start s m t old.journal.entries old.seat.notes q v k.kept there did refl refl halted ends in
+    let loads = as-many w s m (Emulate q v) (inl did) (λ r. refl) in
+    let loads' = same-loads halted w m t ends in
+    let room = two-entries _ _ _ c.requires.room in
+    record {
+      sound = c.conclude.ensures.sound;
+      seat = ap (λ (x : Seat). x.number) c.note-in-Emulate.ensures.seat ∙ k.seat;
+      kept = of-these old.start t _ _ _ _ (c.conclude.ensures.entries ∙ ap (λ (p : ProcId). old.journal.entries ++ step_entries p v halted) same) (ap (λ (x : Seat). x.notes) c.note-in-Emulate.ensures.seat ∙ ap (λ (p : ProcId). old.seat.notes ++ sided q.0 (Made (Emulate p v)) ∷ []) same) kept;
+      goes_on = λ on. goes-on halted m t refl (emulate-end s m q.0 v.0 did) refl ends on;
+      no_policy = k.no_policy;
+      unloads = omega (arith, loads, loads', room, c.conclude.ensures.room);
+    }
+
+pub returns-in-Emulate-clause-turns : goal.returns-in-Emulate-clause-turns
+returns-in-Emulate-clause-turns c =
+    let old = c.args.self.now in
+    let token : Token = c.args.token.now in
+    let s = state_of old.course in
+    let m = state_of c.advance.new.course in
+    let q : ProcId = processor_of token in
+    let v = c.args.vcpu in
+    let same : c.number-processor.result ≡ q = ap (λ (n : ℕ). record { 0 = n }) c.number-processor.ensures in
+    let did : Emulates s q.0 v.0 m = subst (λ (n : ℕ). Advances s n v.0 m (Ok advances.Emulate)) c.number-processor.ensures (subst (λ a. Advances s c.number-processor.result.0 v.0 m (Ok a)) c.in-Emulate.is c.in_ok-access.ensures.advances) in
+    emulate-turn (all_halted m.vcpus) (guest_of old) _ m q v refl did c.conclude.ensures.concludes (c.conclude.ensures.entries ∙ ap (λ (p : ProcId). old.journal.entries ++ step_entries p v (all_halted m.vcpus)) same)
+
+pub returns-in-Emulate-clause-learns : goal.returns-in-Emulate-clause-learns
+returns-in-Emulate-clause-learns c =
+    let old = c.args.self.now in
+    let token : Token = c.args.token.now in
+    let v = c.args.vcpu in
+    let same : c.number-processor.result ≡ processor_of token = ap (λ (n : ℕ). record { 0 = n }) c.number-processor.ensures in
+    record {
+      seat = ap (λ (x : Seat). x.notes) c.note-in-Emulate.ensures.seat ∙ ap (λ (p : ProcId). old.seat.notes ++ sided token.number (Made (Emulate p v)) ∷ []) same;
+      token_is = c.note-in-Emulate.ensures.token ∙ ap (λ (p : ProcId). record token { notes = token.notes ++ sided old.seat.number (Made (Emulate p v)) ∷ [] }) same ∙ ap (λ (n : ℕ). record token { notes = token.notes ++ sided n (Made (Emulate (processor_of token) v)) ∷ [] }) c.requires.kept.seat;
+    }
+
+pub returns-in-Emulate-clause-room : goal.returns-in-Emulate-clause-room
+returns-in-Emulate-clause-room c =
+    let old = c.args.self.now in
+    let token : Token = c.args.token.now in
+    let s = state_of old.course in
+    let m = state_of c.advance.new.course in
+    let k = c.requires.kept in
+    let q : ProcId = processor_of token in
+    let v = c.args.vcpu in
+    let same : c.number-processor.result ≡ q = ap (λ (n : ℕ). record { 0 = n }) c.number-processor.ensures in
+    let w : Laws = record { halts = c.halts_stay.ensures.row; count = c.halts_stay.ensures.count; processors = c.halts_stay.ensures.processors; loaded = c.halts_stay.ensures.loaded; grows = c.run_grows.ensures.row; around = c.row_keeps.ensures.around } in
+    let there : q.0 < length s.processors = subst (λ (n : ℕ). q.0 < n) (sym k.kept.processors) c.requires.token.is_processor in
+    let t = state_of c.conclude.new.course in
+    let halted = all_halted m.vcpus in
+    let did : Emulates s q.0 v.0 m = subst (λ (n : ℕ). Advances s n v.0 m (Ok advances.Emulate)) c.number-processor.ensures (subst (λ a. Advances s c.number-processor.result.0 v.0 m (Ok a)) c.in-Emulate.is c.in_ok-access.ensures.advances) in
+    let loads = as-many w s m (Emulate q v) (inl did) (λ r. refl) in
+    let loads' = same-loads halted w m t c.conclude.ensures.concludes in
+    let ends = c.conclude.ensures in
+    rw (ends.print_room, ends.send_room, ends.cells) (less-room _ _ _ _ _ _ (omega (arith, loads, loads', ends.room)) (less-calls _ _ _ _ _ _ c.advance.ensures.print_room c.advance.ensures.send_room c.advance.ensures.cells))

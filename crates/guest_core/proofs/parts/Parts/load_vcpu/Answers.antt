@@ -1,0 +1,61 @@
+-- The load is its row, and the guest is kept.
+use Rattle.std.proofs.Common.{◌≡◌, ℕ, ◌<◌, Some, true, false, List, [], ◌∷◌, ◌++◌, refl, sym, ap, ◌∙◌, subst, arith}
+use Rattle.base_words.specs.declared.events.Event.{Event}
+use Rattle.base_words.specs.declared.events.Event.TheVariants.{Load}
+use Rattle.shootdown.specs.declared.notes.Note.TheVariants.{Made, Ended}
+use Rattle.shootdown.specs.declared.view.SidedNote.{SidedNote}
+use Rattle.shootdown.specs.Notes.{Seat, sided}
+use Rattle.isolation_law.specs.GuestState.{processor}
+use Rattle.guest_course.specs.CourseView.{state_of}
+use Rattle.guest_core.specs.Kept.{Kept}
+use Rattle.guest_core.proofs.CountLemmas.{swapped}
+use Rattle.guest_core.proofs.KeptProofs.{Laws, kept-one, kept-answer, load-leaves, one-more}
+use Rattle.guest_core.proofs.RoomLemmas.{two-entries}
+use Rattle.guest_core.proofs.parts.Parts.load_vcpu.Goals as goal
+
+pub returns-in-Some-clause-kept : goal.returns-in-Some-clause-kept
+returns-in-Some-clause-kept c =
+    let old = c.args.self.now in
+    let s = state_of old.course in
+    let k = c.requires.kept in
+    let is = c.in-Some.is in
+    let n : SidedNote = sided c.args.token.now.number (Ended c.in-Some.end) in
+    let kept = kept-answer old.start s old.journal.entries old.seat.notes n k.kept (subst (λ (n : ℕ). c.args.token.now.number < n) (sym k.kept.processors) c.requires.token.is_processor) refl (is, λ same. c.requires.before (is ∙ ap Some same)) (record { steps = λ v e. absurd (never e) }) (λ l. refl) in
+    record {
+      sound = k.sound;
+      seat = ap (λ (x : Seat). x.number) c.note.ensures.seat ∙ k.seat;
+      kept = subst (λ (l : List SidedNote). Kept old.start s old.journal.entries l) (sym (ap (λ (x : Seat). x.notes) c.note.ensures.seat)) kept;
+      goes_on = k.goes_on;
+      no_policy = k.no_policy;
+      unloads = k.unloads;
+    }
+  where
+    never : false ≡ true → ⊥
+    never e = cc
+
+pub returns-clause-kept : goal.returns-clause-kept
+returns-clause-kept c =
+    let old = c.args.self.now in
+    let s = state_of old.course in
+    let t = state_of c.load.new.self in
+    let k = c.requires.kept in
+    let p = c.number-processor.result in
+    let v = c.args.vcpu in
+    let n : SidedNote = sided p.0 (Made (Load p v)) in
+    let w : Laws = record { halts = c.halts_stay.ensures.row; count = c.halts_stay.ensures.count; processors = c.halts_stay.ensures.processors; loaded = c.halts_stay.ensures.loaded; grows = c.run_grows.ensures.row; around = c.row_keeps.ensures.around } in
+    let row = c.load.ensures.loads in
+    let kept = kept-one w old.start s t old.journal.entries old.seat.notes (Load p v) n k.kept (load-leaves s t p v row refl k.kept.nothing_due) row.is_processor refl tt (record { steps = λ u e. absurd (never e) }) (λ r. swapped r p.0 (Some v.0) (processor s r).loaded) in
+    let more = one-more w s t p v row in
+    let room = two-entries _ _ _ c.requires.room in
+    record {
+      sound = c.load.ensures.sound;
+      seat = ap (λ (x : Seat). x.number) c.note-2.ensures.seat ∙ k.seat;
+      kept = subst (λ (j : List Event). Kept old.start t j c.note-2.new.seat.notes) (sym c.push.ensures.entries)
+          (subst (λ (l : List SidedNote). Kept old.start t (old.journal.entries ++ Load p v ∷ []) l) (sym (ap (λ (x : Seat). x.notes) c.note-2.ensures.seat ∙ ap (λ (side : ℕ). old.seat.notes ++ sided side (Made (Load p v)) ∷ []) (sym c.number-processor.ensures))) kept);
+      goes_on = λ on. c.load.ensures.goes_on;
+      no_policy = k.no_policy;
+      unloads = omega (arith, more, room, c.push.ensures.room);
+    }
+  where
+    never : false ≡ true → ⊥
+    never e = cc

@@ -1,0 +1,56 @@
+-- The unload is its row, and the guest is kept.
+use Rattle.std.proofs.Common.{◌≡◌, ℕ, ◌<◌, None, true, false, List, [], ◌∷◌, ◌++◌, length, refl, sym, ap, ◌∙◌, subst, arith}
+use Rattle.base_words.specs.declared.events.Event.{Event}
+use Rattle.base_words.specs.declared.events.Event.TheVariants.{Unload}
+use Rattle.shootdown.specs.declared.notes.Note.TheVariants.{Made}
+use Rattle.shootdown.specs.declared.view.SidedNote.{SidedNote}
+use Rattle.shootdown.specs.Notes.{Seat, sided}
+use Rattle.isolation_law.specs.GuestState.{GuestState, processor}
+use Rattle.guest_course.specs.CourseView.{state_of}
+use Rattle.guest_core.specs.Kept.{Kept}
+use Rattle.guest_core.proofs.CountLemmas.{swapped}
+use Rattle.guest_core.proofs.KeptProofs.{Laws, kept-one, unload-leaves, one-fewer}
+use Rattle.guest_core.proofs.RoomLemmas.{same-room}
+use Rattle.guest_core.proofs.parts.Parts.unload.Goals as goal
+
+pub push-requires : goal.push-requires
+push-requires c =
+    let w : Laws = record { halts = c.halts_stay.ensures.row; count = c.halts_stay.ensures.count; processors = c.halts_stay.ensures.processors; loaded = c.halts_stay.ensures.loaded; grows = c.run_grows.ensures.row; around = c.row_keeps.ensures.around } in
+    let k = c.requires.kept in
+    let less = one-fewer w (state_of c.args.self.now.course) (state_of c.unload.new.self) c.number-processor.result c.unload.ensures.unloads (subst (λ (n : ℕ). c.number-processor.result.0 < n) (sym k.kept.processors) (rw c.number-processor.ensures c.requires.token.is_processor)) in
+    let room = k.unloads in
+    omega (arith, less, room)
+
+pub returns-clause-kept : goal.returns-clause-kept
+returns-clause-kept c =
+    let old = c.args.self.now in
+    let s = state_of old.course in
+    let t = state_of c.unload.new.self in
+    let k = c.requires.kept in
+    let p = c.number-processor.result in
+    let n : SidedNote = sided p.0 (Made (Unload p)) in
+    let w : Laws = record { halts = c.halts_stay.ensures.row; count = c.halts_stay.ensures.count; processors = c.halts_stay.ensures.processors; loaded = c.halts_stay.ensures.loaded; grows = c.run_grows.ensures.row; around = c.row_keeps.ensures.around } in
+    let leaves = unload-leaves s t p c.unload.ensures.unloads refl k.kept.nothing_due in
+    let there : p.0 < length s.processors = subst (λ (n : ℕ). p.0 < n) (sym k.kept.processors) (rw c.number-processor.ensures c.requires.token.is_processor) in
+    let kept = kept-one w old.start s t old.journal.entries old.seat.notes (Unload p) n k.kept leaves there refl tt (record { steps = λ v e. absurd (never e) }) (λ r. swapped r p.0 None (processor s r).loaded) in
+    let less = one-fewer w s t p c.unload.ensures.unloads (subst (λ (n : ℕ). p.0 < n) (sym k.kept.processors) (rw c.number-processor.ensures c.requires.token.is_processor)) in
+    let room = k.unloads in
+    record {
+      sound = c.unload.ensures.sound;
+      seat = ap (λ (x : Seat). x.number) c.note.ensures.seat ∙ k.seat;
+      kept = subst (λ (j : List Event). Kept old.start t j c.note.new.seat.notes) (sym c.push.ensures.entries) (subst (λ (l : List SidedNote). Kept old.start t (old.journal.entries ++ Unload p ∷ []) l) (sym (ap (λ (x : Seat). x.notes) c.note.ensures.seat ∙ ap (λ (side : ℕ). old.seat.notes ++ sided side (Made (Unload p)) ∷ []) (sym c.number-processor.ensures))) kept);
+      goes_on = λ on. c.unload.ensures.goes_on (k.goes_on (sym (ap (λ (x : GuestState). x.end) c.unload.ensures.unloads.after) ∙ on));
+      no_policy = k.no_policy;
+      unloads = omega (arith, less, room, c.push.ensures.room);
+    }
+  where
+    never : false ≡ true → ⊥
+    never e = cc
+
+pub returns-clause-room : goal.returns-clause-room
+returns-clause-room c =
+    let w : Laws = record { halts = c.halts_stay.ensures.row; count = c.halts_stay.ensures.count; processors = c.halts_stay.ensures.processors; loaded = c.halts_stay.ensures.loaded; grows = c.run_grows.ensures.row; around = c.row_keeps.ensures.around } in
+    let k = c.requires.kept in
+    let less = one-fewer w (state_of c.args.self.now.course) (state_of c.unload.new.self) c.number-processor.result c.unload.ensures.unloads (subst (λ (n : ℕ). c.number-processor.result.0 < n) (sym k.kept.processors) (rw c.number-processor.ensures c.requires.token.is_processor)) in
+    let c' = c.unload.ensures in
+    rw (c'.print_room, c'.send_room, c'.cells) (same-room _ _ _ _ _ (omega (arith, less, c.push.ensures.room)))

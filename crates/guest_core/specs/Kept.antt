@@ -1,0 +1,32 @@
+-- What the type of a guest keeps.
+use Rattle.std.specs.Prelude.{◌≡◌, ℕ, ◌≤◌, List, length, None}
+use Rattle.base_words.specs.declared.events.Event.{Event}
+use Rattle.shootdown.specs.declared.view.SidedNote.{SidedNote}
+use Rattle.isolation_law.specs.GuestState.{GuestState, due_on}
+use Rattle.isolation_law.specs.Phases.{GoesOn}
+use Rattle.isolation_law.specs.Run.{Run}
+use Rattle.isolation_law.specs.Start.{Boot, start as started}
+use Rattle.guest_course.specs.CourseView.{state_of}
+use Rattle.guest_course.specs.CourseRules.{IsSound}
+use Rattle.guest_core.specs.declared.parts.Parts.{Parts}
+use Rattle.guest_core.specs.GuestView.{loaded_count}
+use Rattle.guest_core.specs.Noting.{IsNoted}
+
+-- The journal is a run from the guest's start to its state, and the seat's notes are in step with both. No choice of a policy is due, as
+-- there is no policy yet.
+pub record Kept (b : Boot) (s : GuestState) (journal : List Event) (notes : List SidedNote) : Type 0 where
+  pub run : Run (started b) journal s
+  pub noted : IsNoted s journal notes
+  pub around : s.around ≡ b.around
+  pub nothing_due : (r : ℕ) → due_on s r ≡ None
+  pub processors : length s.processors ≡ length b.around.processors
+  pub vcpus : length s.vcpus ≡ b.vcpus
+
+-- A guest whose virtual processors have all halted has ended. The journal has room for each unload.
+pub record IsKept (g : Parts) : Type 0 where
+  pub sound : IsSound g.course
+  pub seat : g.seat.number ≡ g.number.0
+  pub kept : Kept g.start (state_of g.course) g.journal.entries g.seat.notes
+  pub goes_on : g.course.ended ≡ None → GoesOn (state_of g.course)
+  pub no_policy : (g.start.around.policy.migrate ≡ 0) × (g.start.around.policy.replicate ≡ 0)
+  pub unloads : loaded_count (state_of g.course) ≤ g.journal.room

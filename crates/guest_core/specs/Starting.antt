@@ -1,0 +1,44 @@
+-- What a guest is booted with.
+use Rattle.std.specs.Prelude.{◌≡◌, ℕ, ◌*◌, ◌<◌, ◌≤◌, ◌^◌, List, [], ◌∷◌, length, map}
+use Rattle.std.specs.Global.{Box}
+use Rattle.base_words.specs.declared.page.Page.{Page}
+use Rattle.base_words.specs.declared.frame.Frame.{Frame}
+use Rattle.base_words.specs.declared.input.InputEntry.{InputEntry}
+use Rattle.private_machine.specs.PrivateRun.{Image as Given}
+use Rattle.elf_image.specs.declared.image.Image.{Image}
+use Rattle.elf_image.specs.Physical.{memory_of}
+use Rattle.isolation_law.specs.Start.{Boot}
+use Rattle.guest_course.specs.declared.site.Around.{Around}
+use Rattle.guest_course.specs.CourseView.{surroundings}
+use Rattle.guest_course.specs.BootCalls.{AllBelow, found_of}
+
+-- an image, as the private machine starts from it
+abbrev pub image_of : Image → Given
+image_of image = record { entry = image.entry; pages = length image.pages; memory = memory_of image.pages }
+
+-- each page has the next of these frames, with the image's bytes in it
+abbrev pub booted_with : Around → Image → ℕ → List Frame → List InputEntry → Boot
+booted_with around image vcpus frames input = record {
+  around = surroundings around;
+  image = image_of image;
+  vcpus = vcpus;
+  disk = [];
+  input = input;
+  frames = map found_of frames;
+}
+
+-- the frames with the pages' bytes, each with those of the page at its place
+abbrev pub filled : List Frame → List (Box Page) → List Frame
+filled (f ∷ frames) (page ∷ pages) = record f { page = page } ∷ filled frames pages
+filled frames pages = []
+
+-- there are virtual processors and not too many, nor too many pages, processors and frames of the machine; and a frame for each page
+pub record MayStart (around : Around) (image : Image) (vcpus : ℕ) (frames : List Frame) : Type 0 where
+  pub some_vcpus : 0 < vcpus
+  pub few_vcpus : vcpus ≤ 4
+  pub few_pages : length image.pages ≤ 2048
+  pub backed : length frames ≡ length image.pages
+  pub no_policy : (around.site.policy.migrate ≡ 0) × (around.site.policy.replicate ≡ 0)
+  pub few_processors : length around.site.processors ≤ 16
+  pub few_frames : around.site.shape.nodes * around.site.shape.frames < 2 ^ 32
+  pub on_nodes : AllBelow around.site.shape.nodes around.site.processors

@@ -1,0 +1,36 @@
+-- What a turn does to the parts of a guest.
+use Rattle.std.specs.Prelude.{◌≡◌, ℕ, Bool, true, false, None, Result, Ok, Err}
+use Rattle.std.specs.declared.alloc.AllocError.{AllocError}
+use Rattle.base_words.specs.declared.events.End.TheVariants.{Halted as ByHalt}
+use Rattle.isolation_law.specs.GuestState.{GuestState, vcpu_of}
+use Rattle.isolation_law.specs.EndRows.{Ends}
+use Rattle.isolation_law.specs.Phases.{GoesOn}
+use Rattle.isolation_law.specs.RefillRow.{Refills}
+use Rattle.isolation_law.specs.StepRows.{Emulates}
+use Rattle.guest_course.specs.StepCalls.{StepsDirect}
+use Rattle.guest_core.specs.declared.advancing.Advanced.{Advanced}
+use Rattle.guest_core.specs.declared.advancing.Advanced.TheVariants as advances
+
+-- the entry that was made, or none
+abbrev pub Advances : GuestState → ℕ → ℕ → GuestState → Result Advanced AllocError → Type 0
+Advances s p v t (Ok (advances.Direct access)) = StepsDirect s p v t access
+Advances s p v t (Ok advances.Refill) = Refills s p t
+Advances s p v t (Ok advances.Emulate) = Emulates s p v t
+Advances s p v t (Err e) = t ≡ s
+
+-- a guest goes on after a step that a processor makes by itself, after a refill, and where memory is wanting
+abbrev pub GoesOnThen : GuestState → Result Advanced AllocError → Type 0
+GoesOnThen t (Ok (advances.Direct access)) = GoesOn t
+GoesOnThen t (Ok advances.Refill) = GoesOn t
+GoesOnThen t (Ok advances.Emulate) = Unit {0}
+GoesOnThen t (Err e) = GoesOn t
+
+-- the guest ends where its virtual processors have all halted
+abbrev pub Concludes : Bool → GuestState → GuestState → Type 0
+Concludes true s t = Ends s ByHalt t
+Concludes false s t = t ≡ s
+
+-- a virtual processor of a guest that hasn't ended runs
+pub record MayRun (s : GuestState) (v : ℕ) : Type 0 where
+  pub not_ended : s.end ≡ None
+  pub running : (vcpu_of s v).halted ≡ false

@@ -1,0 +1,68 @@
+//! A guest at its start.
+ghost use Rattle.std.specs.Prelude.{◌≡◌, [], IfOk, length};
+ghost use Rattle.guest_course.specs.BootCalls.{AreWhole};
+ghost use Rattle.guest_core.specs.Starting.{booted_with, filled, MayStart};
+ghost use Rattle.guest_core.specs.GuestView.{guest_of, IsAtStart};
+ghost use Rattle.guest_core.specs.Kept.{IsKept};
+
+use crate::parts::Parts;
+use crate::start::Start;
+use base_words::{Frame, FrameList, GuestId, InputList, PageList};
+use elf_image::Image;
+use event_journal::Journal;
+use guest_course::{Around, Course};
+use isolation_law::{run_grows, start_holds};
+use shootdown::GuestSeat;
+use std::alloc::{AllocError, Global};
+
+/// These frames, each with the bytes of the page at its place.
+fn fill(alloc: Global, frames: &FrameList, pages: PageList) -> Result<FrameList, AllocError>
+    requires { length frames.now ≡ length pages }
+    ensures filled { IfOk result (λ full. full ≡ filled frames.now pages) }
+    ensures whole { IfOk result AreWhole }
+{
+    let mut full = Vec::with_capacity(alloc, pages.len())?;
+    for page in pages.into_vec() {
+        let _whole = page.bytes();
+        let frame = &frames.as_slice()[full.len()];
+        full.push(Frame {
+            number: frame.number,
+            generation: frame.generation,
+            page,
+        })?;
+    }
+    Ok(FrameList::from_vec(full))
+}
+
+impl Parts {
+    /// What is kept of the guest of this seat at its start: so many virtual processors, of which none is loaded, and the image's pages, each in the
+    /// next of these frames.
+    pub(crate) fn boot(
+        alloc: Global,
+        image: Image,
+        around: Around,
+        vcpus: u8,
+        input: &InputList,
+        frames: FrameList,
+        seat: GuestSeat,
+    ) -> Result<Self, AllocError>
+        requires may { MayStart around image vcpus frames }
+        requires no_notes { seat.notes ≡ [] }
+        ensures kept { IfOk result IsKept }
+        ensures start { IfOk result (λ g. IsAtStart seat.number (booted_with around image vcpus frames input.now) seat.board (guest_of g)) }
+    {
+        start_holds();
+        run_grows();
+        let start = Start::of(&around, &image, vcpus, &frames, input);
+        let Image { entry, pages } = image;
+        let frames = fill(alloc, &frames, pages)?;
+        let number: GuestId = seat.number();
+        Ok(Parts {
+            number,
+            start,
+            course: Course::boot(alloc, around, entry, vcpus, frames, input)?,
+            journal: Journal::new(alloc),
+            seat,
+        })
+    }
+}

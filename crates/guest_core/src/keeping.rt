@@ -1,0 +1,44 @@
+//! Room for calls, and what the notes tell.
+ghost use Rattle.std.specs.Prelude.{◌≡◌, ◌≤◌, OnOk};
+ghost use Rattle.shootdown.specs.Notes.{with_side};
+ghost use Rattle.isolation_law.specs.GuestState.{processor as processor_at};
+ghost use Rattle.guest_core.specs.GuestView.{guest_of, IsSameGuest};
+ghost use Rattle.guest_core.specs.Kept.{IsKept};
+ghost use Rattle.guest_core.specs.Noting.{shows_loaded};
+ghost use Rattle.guest_core.specs.GuestCalls.{Stays, MayNote};
+
+use crate::parts::Parts;
+use shootdown::{ProcToken, agree};
+use std::alloc::AllocError;
+
+/// For so many entries the journal has room once room was made: two, and one for each processor that may have to unload.
+const ENTRIES: usize = 18;
+
+impl Parts {
+    /// Makes room for one further call. A refusal changes nothing but what room there is.
+    #[inline]
+    pub(crate) fn make_room(&mut self) -> Result<(), AllocError>
+        requires { IsKept self.old }
+        ensures kept { IsKept self.new }
+        ensures same { IsSameGuest (guest_of self.old) (guest_of self.new) }
+        ensures stays { Stays (guest_of self.old) (guest_of self.new) }
+        ensures notes { self.new.seat ≡ self.old.seat }
+        ensures room { OnOk result (2 ≤ (guest_of self.new).room) }
+    {
+        self.journal.reserve(ENTRIES)?;
+        self.course.reserve()
+    }
+
+    /// Tells that what a token noted of this guest is what the guest's seat noted of the token's processor, and that it shows what is
+    /// loaded there.
+    #[inline]
+    pub(crate) fn agree(&mut self, token: &mut ProcToken)
+        requires kept { IsKept self.old }
+        requires token { MayNote (guest_of self.old) token.old }
+        ensures same { (self.new ≡ self.old) × (token.new ≡ token.old) }
+        ensures notes { with_side (guest_of self.old).number token.old.notes ≡ with_side token.old.number (guest_of self.old).notes }
+        ensures loaded { shows_loaded (with_side (guest_of self.old).number token.old.notes) ≡ (processor_at (guest_of self.old).state token.old.number).loaded }
+    {
+        agree(token, &mut self.seat);
+    }
+}

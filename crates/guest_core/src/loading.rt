@@ -1,0 +1,72 @@
+//! Which virtual processor is loaded on which processor.
+ghost use Rattle.std.specs.Prelude.{◌≡◌, ◌≢◌, ◌<◌, ◌≤◌, ◌+◌, [], ◌∷◌, None, Some, IfSome, IfNone, length, ℕ};
+ghost use Rattle.base_words.specs.declared.events.Event.TheVariants.{Unload};
+ghost use Rattle.base_words.specs.declared.events.End.TheVariants.{Budget};
+ghost use Rattle.shootdown.specs.declared.notes.Note.TheVariants.{Made};
+ghost use Rattle.isolation_law.specs.GuestState.{processor as processor_at};
+ghost use Rattle.guest_core.specs.GuestView.{guest_of, IsSameGuest};
+ghost use Rattle.guest_core.specs.Kept.{IsKept};
+ghost use Rattle.guest_core.specs.GuestCalls.{Makes, Learns, LoadsVcpu, told_of_load, MayNote, processor_of};
+
+use crate::Loaded;
+use crate::parts::Parts;
+use base_words::{Event, ProcId, VcpuId};
+use isolation_law::{halts_stay, row_keeps, run_grows};
+use shootdown::{Note, ProcToken, note};
+
+impl Parts {
+    /// Loads a virtual processor on the token's processor, on which nothing is loaded. `Ended` exactly where the guest has ended;
+    /// else `On` exactly where it is loaded already, on that processor.
+    pub(crate) fn load_vcpu(&mut self, token: &mut ProcToken, vcpu: VcpuId) -> Loaded
+        requires kept { IsKept self.old }
+        requires room { 2 ≤ (guest_of self.old).room }
+        requires token { MayNote (guest_of self.old) token.old }
+        requires vcpu { vcpu.0 < (guest_of self.old).start.vcpus }
+        requires free { (processor_at (guest_of self.old).state token.old.number).loaded ≡ None }
+        requires before { (guest_of self.old).state.end ≢ Some Budget }
+        ensures kept { IsKept self.new }
+        ensures loads { LoadsVcpu (guest_of self.old) (processor_of token.old) vcpu (guest_of self.new) result }
+        ensures learns { Learns (guest_of self.old) token.old (told_of_load (processor_of token.old) vcpu result) (guest_of self.new) token.new }
+        ensures same { IsSameGuest (guest_of self.old) (guest_of self.new) }
+        ensures room { (guest_of self.old).room ≤ (guest_of self.new).room + 2 }
+    {
+        halts_stay();
+        row_keeps();
+        run_grows();
+        let processor = token.number();
+        if let Some(end) = self.course.ended {
+            note(token, &mut self.seat, Note::Ended(end));
+            return Loaded::Ended(end);
+        }
+        if let Some(other) = self.course.processor_with(vcpu) {
+            return Loaded::On(other);
+        }
+        self.course.load(processor, vcpu);
+        let entry = Event::Load(processor, vcpu);
+        self.journal.push(entry);
+        note(token, &mut self.seat, Note::Made(entry));
+        Loaded::Done
+    }
+
+    /// Unloads what is loaded on the token's processor. It needs no room.
+    pub(crate) fn unload(&mut self, token: &mut ProcToken)
+        requires kept { IsKept self.old }
+        requires token { MayNote (guest_of self.old) token.old }
+        requires loaded { (processor_at (guest_of self.old).state token.old.number).loaded ≢ None }
+        requires before { (guest_of self.old).state.end ≢ Some Budget }
+        ensures kept { IsKept self.new }
+        ensures makes { Makes (guest_of self.old) (Unload (processor_of token.old) ∷ []) (guest_of self.new) }
+        ensures learns { Learns (guest_of self.old) token.old (Made (Unload (processor_of token.old)) ∷ []) (guest_of self.new) token.new }
+        ensures same { IsSameGuest (guest_of self.old) (guest_of self.new) }
+        ensures room { (guest_of self.old).room ≤ (guest_of self.new).room }
+    {
+        halts_stay();
+        row_keeps();
+        run_grows();
+        let processor = token.number();
+        self.course.unload(processor);
+        let entry = Event::Unload(processor);
+        self.journal.push(entry);
+        note(token, &mut self.seat, Note::Made(entry));
+    }
+}

@@ -1,0 +1,16 @@
+//! What is kept of a guest.
+use crate::start::Start;
+use base_words::GuestId;
+use event_journal::Journal;
+use guest_course::Course;
+use shootdown::GuestSeat;
+
+/// What is kept of a guest: its number, what it was started from, its machine with what backs it, its journal, and its seat.
+#[derive(Drop)]
+pub(crate) struct Parts {
+    pub(crate) number: GuestId,
+    pub(crate) start: Start,
+    pub(crate) course: Course,
+    pub(crate) journal: Journal,
+    pub(crate) seat: GuestSeat,
+}

@@ -1,0 +1,113 @@
+//! One turn of a virtual processor.
+ghost use Rattle.std.specs.Prelude.{◌≡◌, ◌≢◌, ◌≤◌, ◌+◌, ◌++◌, None, Some};
+ghost use Rattle.base_words.specs.declared.events.End.TheVariants.{Budget};
+ghost use Rattle.isolation_law.specs.GuestState.{processor as processor_at};
+ghost use Rattle.isolation_law.specs.Phases.{all_halted};
+ghost use Rattle.guest_course.specs.CourseView.{state_of};
+ghost use Rattle.guest_course.specs.CourseRules.{IsSound};
+ghost use Rattle.guest_core.specs.GuestView.{guest_of, IsSameGuest};
+ghost use Rattle.guest_core.specs.Kept.{IsKept};
+ghost use Rattle.guest_core.specs.GuestCalls.{Learns, MayNote, processor_of, loaded_on, step_entries, Turns, told_of_turn};
+ghost use Rattle.guest_core.specs.TurnParts.{Concludes, MayRun};
+
+use crate::Turn;
+use crate::advancing::{Advanced, advance};
+use crate::parts::Parts;
+use base_words::{End, Event, ProcId, VcpuId};
+use event_journal::Journal;
+use guest_course::Course;
+use isolation_law::{halts_stay, row_keeps, run_grows};
+use shootdown::{Note, ProcToken, note};
+use std::alloc::{AllocError, Global};
+
+/// Puts the step that the monitor made into the journal, and the end of the guest where it halted the last virtual processor.
+fn conclude(course: &mut Course, journal: &mut Journal, processor: ProcId, vcpu: VcpuId)
+    requires sound { IsSound course.old }
+    requires goes_on { course.old.ended ≡ None }
+    requires room { 2 ≤ journal.old.room }
+    ensures sound { IsSound course.new }
+    ensures concludes { Concludes (all_halted course.old.vcpus.items) (state_of course.old) (state_of course.new) }
+    ensures entries { journal.new.entries ≡ journal.old.entries ++ step_entries processor vcpu (all_halted course.old.vcpus.items) }
+    ensures room { journal.old.room ≤ journal.new.room + 2 }
+    ensures print_room { course.new.devs.print_room ≡ course.old.devs.print_room }
+    ensures send_room { course.new.devs.send_room ≡ course.old.devs.send_room }
+    ensures cells { course.new.sent_from ≡ course.old.sent_from }
+{
+    journal.push(Event::Emulate(processor, vcpu));
+    if course.has_halted() {
+        course.end(End::Halted);
+        journal.push(Event::End(End::Halted));
+    }
+}
+
+impl Parts {
+    /// The next entry of a virtual processor that runs.
+    fn enter(
+        &mut self,
+        alloc: Global,
+        token: &mut ProcToken,
+        vcpu: VcpuId,
+    ) -> Result<Turn, AllocError>
+        requires kept { IsKept self.old }
+        requires room { 2 ≤ (guest_of self.old).room }
+        requires token { MayNote (guest_of self.old) token.old }
+        requires loaded { (processor_at (guest_of self.old).state token.old.number).loaded ≡ Some vcpu.0 }
+        requires runs { MayRun (guest_of self.old).state vcpu.0 }
+        ensures kept { IsKept self.new }
+        ensures turns { Turns (guest_of self.old) (processor_of token.old) vcpu (guest_of self.new) result }
+        ensures learns { Learns (guest_of self.old) token.old (told_of_turn (processor_of token.old) vcpu result) (guest_of self.new) token.new }
+        ensures same { IsSameGuest (guest_of self.old) (guest_of self.new) }
+        ensures room { (guest_of self.old).room ≤ (guest_of self.new).room + 2 }
+    {
+        halts_stay();
+        row_keeps();
+        run_grows();
+        let processor = token.number();
+        match advance(&mut self.course, alloc, processor, vcpu)? {
+            Advanced::Direct(access) => {
+                self.journal.push_direct(processor, vcpu);
+                let entry = Event::Direct(processor, vcpu);
+                note(token, &mut self.seat, Note::Made(entry));
+                Ok(Turn::Stepped(Some(access)))
+            }
+            Advanced::Refill => {
+                self.journal.push(Event::Refill(processor));
+                Ok(Turn::Refilled)
+            }
+            Advanced::Emulate => {
+                conclude(&mut self.course, &mut self.journal, processor, vcpu);
+                let entry = Event::Emulate(processor, vcpu);
+                note(token, &mut self.seat, Note::Made(entry));
+                Ok(Turn::Stepped(None))
+            }
+        }
+    }
+
+    /// The virtual processor that is loaded on the token's processor has its turn.
+    #[inline]
+    pub(crate) fn turn(&mut self, alloc: Global, token: &mut ProcToken) -> Result<Turn, AllocError>
+        requires kept { IsKept self.old }
+        requires room { 2 ≤ (guest_of self.old).room }
+        requires token { MayNote (guest_of self.old) token.old }
+        requires loaded { (processor_at (guest_of self.old).state token.old.number).loaded ≢ None }
+        requires before { (guest_of self.old).state.end ≢ Some Budget }
+        ensures kept { IsKept self.new }
+        ensures turns { Turns (guest_of self.old) (processor_of token.old) (loaded_on (guest_of self.old) token.old) (guest_of self.new) result }
+        ensures learns { Learns (guest_of self.old) token.old (told_of_turn (processor_of token.old) (loaded_on (guest_of self.old) token.old) result) (guest_of self.new) token.new }
+        ensures same { IsSameGuest (guest_of self.old) (guest_of self.new) }
+        ensures room { (guest_of self.old).room ≤ (guest_of self.new).room + 2 }
+    {
+        if let Some(end) = self.course.ended {
+            note(token, &mut self.seat, Note::Ended(end));
+            return Ok(Turn::GuestEnded(end));
+        }
+        let Some(vcpu) = self.course.loaded(token.number()) else {
+            unreachable!();
+        };
+        if self.course.vcpus[vcpu.0 as usize].halted {
+            note(token, &mut self.seat, Note::Halted(vcpu));
+            return Ok(Turn::VcpuHalted);
+        }
+        self.enter(alloc, token, vcpu)
+    }
+}

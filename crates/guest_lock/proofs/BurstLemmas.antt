@@ -1,0 +1,118 @@
+-- Bursts grow by turns.
+use Rattle.std.proofs.Common.{◌≡◌, ◌≢◌, ℕ, zero, suc, ◌+◌, ◌≤◌, List, [], ◌∷◌, ◌++◌, map, refl, sym, ap, ◌∙◌, subst, append_assoc, Option, Some, None, Result, Ok, Err, inl, inr, unwrap_or, arith}
+use Rattle.std.specs.declared.alloc.AllocError.{AllocError}
+use Rattle.base_words.specs.declared.ids.ProcId.{ProcId}
+use Rattle.base_words.specs.declared.ids.VcpuId.{VcpuId}
+use Rattle.base_words.specs.declared.events.Event.TheVariants.{Direct, Emulate}
+use Rattle.shootdown.specs.declared.notes.Note.{Note}
+use Rattle.shootdown.specs.declared.notes.Note.TheVariants.{Made, Halted, Ended}
+use Rattle.shootdown.specs.Notes.{Token}
+use Rattle.guest_core.specs.declared.answers.Turn.{Turn}
+use Rattle.guest_core.specs.declared.answers.Turn.TheVariants as turn
+use Rattle.guest_core.specs.GuestCalls.{processor_of, told_of_turn}
+use Rattle.guest_lock.specs.declared.burst.Burst.{Burst}
+use Rattle.guest_lock.specs.declared.burst.Stop.{Stop}
+use Rattle.guest_lock.specs.declared.burst.Stop.TheVariants as stop
+use Rattle.guest_lock.specs.Told.{with_told, shown, vcpu_shown, told_of_stop, IsStep, AreSteps, Bursts}
+use Rattle.guest_lock.specs.Counted.{counted, none_made, joined}
+use Rattle.guest_core.specs.Noting.{loaded_by}
+use Rattle.guest_lock.proofs.Notes.{append-none, with_told-none, with_told-more, steps-append, steps-loaded, shown-steps, shown-told, loaded_by-append}
+
+-- what a burst that goes on was told is its steps
+paused : (old : Token) (g : ℕ) (b : Burst) (new : Token) (bursts : Bursts old g b new) → b.stop ≡ stop.Paused → new ≡ with_told old g bursts.made
+paused old g b new bursts e = bursts.token ∙ ap (λ s. with_told old g (bursts.made ++ told_of_stop (vcpu_shown g old) s)) e ∙ ap (with_told old g) (append-none bursts.made)
+
+-- it shows the same virtual processor
+pub shown-paused : (old : Token) (g : ℕ) (b : Burst) (new : Token) → Bursts old g b new → b.stop ≡ stop.Paused → shown g new ≡ shown g old
+shown-paused old g b new bursts e = ap (shown g) (paused old g b new bursts e) ∙ shown-steps g old (processor_of old) (vcpu_shown g old) b.steps bursts.made bursts.steps
+
+pub Bursts-none : (old : Token) (g : ℕ) → Bursts old g none_made old
+Bursts-none old g = record { made = []; steps = tt; token = sym (with_told-none old g) }
+
+-- a burst that goes on, and what is told next
+joins : (old : Token) (g : ℕ) (first : Burst) (mid : Token) (next : List Note) (n : ℕ) (s : Stop) (b : Burst) (new : Token) →
+    (bursts : Bursts old g first mid) → first.stop ≡ stop.Paused → AreSteps (processor_of old) (vcpu_shown g old) n next →
+    b.steps ≡ first.steps + n → b.stop ≡ s → new ≡ with_told mid g (next ++ told_of_stop (vcpu_shown g old) s) → Bursts old g b new
+joins old g first mid next n s b new bursts e are steps stops token =
+    let v = vcpu_shown g old in record {
+      made = bursts.made ++ next;
+      steps = subst (λ k. AreSteps (processor_of old) v k (bursts.made ++ next)) (sym steps) (steps-append (processor_of old) v first.steps n bursts.made next bursts.steps are);
+      token =
+          token
+          ∙ ap (λ (t : Token). with_told t g (next ++ told_of_stop v s)) (paused old g first mid bursts e)
+          ∙ with_told-more old g bursts.made (next ++ told_of_stop v s)
+          ∙ ap (with_told old g) (sym (append_assoc bursts.made next (told_of_stop v s)))
+          ∙ ap (λ k. with_told old g ((bursts.made ++ next) ++ told_of_stop v k)) (sym stops);
+    }
+
+-- a turn more, as the token before it shows
+turn-told : (old : Token) (g : ℕ) (b : Burst) (mid : Token) (r : Result Turn AllocError) (new : Token) →
+    Bursts old g b mid → b.stop ≡ stop.Paused → new ≡ with_told mid g (told_of_turn (processor_of old) (vcpu_shown g old) r) → Bursts old g (counted b r) new
+turn-told old g b mid (Ok (turn.Stepped (Some access))) new bursts e token =
+    let p = processor_of old in
+    let v = vcpu_shown g old in
+    let are : AreSteps p v 1 (Made (Direct p v) ∷ []) = (inl refl, tt) in
+    joins old g b mid (Made (Direct p v) ∷ []) 1 stop.Paused _ new bursts e are refl e token
+turn-told old g b mid (Ok (turn.Stepped None)) new bursts e token =
+    let p = processor_of old in
+    let v = vcpu_shown g old in
+    let are : AreSteps p v 1 (Made (Emulate p v) ∷ []) = (inr refl, tt) in
+    joins old g b mid (Made (Emulate p v) ∷ []) 1 stop.Paused _ new bursts e are refl e token
+turn-told old g b mid (Ok turn.Refilled) new bursts e token = joins old g b mid [] 0 stop.Paused _ new bursts e tt (let n : b.steps ≡ b.steps + 0 = omega arith in n) e token
+turn-told old g b mid (Ok turn.VcpuHalted) new bursts e token = joins old g b mid [] 0 stop.VcpuHalted _ new bursts e tt (let n : b.steps ≡ b.steps + 0 = omega arith in n) refl token
+turn-told old g b mid (Ok (turn.GuestEnded end)) new bursts e token = joins old g b mid [] 0 (stop.GuestEnded end) _ new bursts e tt (let n : b.steps ≡ b.steps + 0 = omega arith in n) refl token
+turn-told old g b mid (Err error) new bursts e token = joins old g b mid [] 0 stop.Memory _ new bursts e tt (let n : b.steps ≡ b.steps + 0 = omega arith in n) refl token
+
+same-vcpu : (old : Token) (g : ℕ) (b : Burst) (mid : Token) → Bursts old g b mid → b.stop ≡ stop.Paused → vcpu_shown g mid ≡ vcpu_shown g old
+same-vcpu old g b mid bursts e = ap (λ s. record { 0 = unwrap_or s 0 }) (shown-paused old g b mid bursts e)
+
+pub Bursts-turn : (old : Token) (g : ℕ) (b : Burst) (mid : Token) (r : Result Turn AllocError) (new : Token) →
+    Bursts old g b mid → b.stop ≡ stop.Paused → new ≡ with_told mid g (told_of_turn (processor_of mid) (vcpu_shown g mid) r) → Bursts old g (counted b r) new
+Bursts-turn old g b mid r new bursts e token = turn-told old g b mid r new bursts e (
+    token
+    ∙ ap (λ v. with_told mid g (told_of_turn (processor_of mid) v r)) (same-vcpu old g b mid bursts e)
+    ∙ ap (λ (t : Token). with_told mid g (told_of_turn (processor_of t) (vcpu_shown g old) r)) (paused old g b mid bursts e))
+
+pub counted-turns : (b : Burst) (r : Result Turn AllocError) → (counted b r).turns ≡ b.turns + 1
+counted-turns b (Ok (turn.Stepped (Some access))) = refl
+counted-turns b (Ok (turn.Stepped None)) = refl
+counted-turns b (Ok turn.Refilled) = refl
+counted-turns b (Ok turn.VcpuHalted) = refl
+counted-turns b (Ok (turn.GuestEnded end)) = refl
+counted-turns b (Err error) = refl
+
+pub counted-steps : (b : Burst) (r : Result Turn AllocError) → (counted b r).steps ≤ b.steps + 1
+counted-steps b (Ok (turn.Stepped (Some access))) = omega arith
+counted-steps b (Ok (turn.Stepped None)) = omega arith
+counted-steps b (Ok turn.Refilled) = omega arith
+counted-steps b (Ok turn.VcpuHalted) = omega arith
+counted-steps b (Ok (turn.GuestEnded end)) = omega arith
+counted-steps b (Err error) = omega arith
+
+-- ---- a burst more
+
+-- what stops turns changes nothing of what is loaded
+stop-loaded : (v : VcpuId) (l : Option ℕ) (s : Stop) → loaded_by l (told_of_stop v s) ≡ l
+stop-loaded v l stop.Paused = refl
+stop-loaded v l stop.VcpuHalted = refl
+stop-loaded v l (stop.GuestEnded end) = refl
+stop-loaded v l stop.Memory = refl
+
+pub shown-burst : (old : Token) (g : ℕ) (b : Burst) (new : Token) → Bursts old g b new → shown g new ≡ shown g old
+shown-burst old g b new bursts =
+    let v = vcpu_shown g old in
+    let last = told_of_stop v b.stop in
+    ap (shown g) bursts.token
+    ∙ shown-told g old (bursts.made ++ last)
+    ∙ loaded_by-append (shown g old) bursts.made last
+    ∙ ap (λ l. loaded_by l last) (steps-loaded (processor_of old) v (shown g old) b.steps bursts.made bursts.steps)
+    ∙ stop-loaded v (shown g old) b.stop
+
+pub Bursts-join : (old mid new : Token) (g : ℕ) (first next : Burst) → first.stop ≡ stop.Paused → Bursts old g first mid → Bursts mid g next new → Bursts old g (joined first next) new
+Bursts-join old mid new g first next e bursts more =
+    let token = paused old g first mid bursts e in
+    let same = shown-burst old g first mid bursts in
+    let vcpu : vcpu_shown g mid ≡ vcpu_shown g old = ap (λ s. record { 0 = unwrap_or s 0 }) same in
+    let processor : processor_of mid ≡ processor_of old = ap processor_of token in
+    let steps = subst (λ v. AreSteps (processor_of old) v next.steps more.made) vcpu (subst (λ p. AreSteps p (vcpu_shown g mid) next.steps more.made) processor more.steps) in
+    joins old g first mid more.made next.steps next.stop (joined first next) new bursts e steps refl refl (more.token ∙ ap (λ v. with_told mid g (more.made ++ told_of_stop v next.stop)) vcpu)

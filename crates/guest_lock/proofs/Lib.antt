@@ -1,0 +1,4 @@
+pub mod Notes
+pub mod BurstLemmas
+pub mod GuestLemmas
+pub mod Crossing

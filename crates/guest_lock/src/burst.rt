@@ -1,0 +1,76 @@
+//! What a burst of turns did.
+ghost use Rattle.std.specs.Prelude.{◌≡◌, ◌+◌, ◌<◌, ◌^◌};
+ghost use Rattle.std.specs.declared.alloc.AllocError.{AllocError};
+ghost use Rattle.guest_lock.specs.Counted.{counted, none_made, joined};
+
+use base_words::End;
+use guest_core::Turn;
+use std::alloc::AllocError;
+
+/// A burst has at most so many turns.
+pub const BURST_TURNS: u64 = 64;
+
+/// How a burst came to its end.
+#[derive(Clone, Copy, Debug, PartialEq, Eq)]
+pub enum Stop {
+    /// Each turn was a step or a refill.
+    Paused,
+    /// The virtual processor has halted.
+    VcpuHalted,
+    /// The guest has ended.
+    GuestEnded(End),
+    /// Memory was wanting.
+    Memory,
+}
+
+/// What a burst of turns did.
+#[derive(Clone, Copy, Debug, PartialEq, Eq)]
+pub struct Burst {
+    /// How many turns there were.
+    pub turns: u64,
+    /// How many of them were own steps.
+    pub steps: u64,
+    /// How the last one came out.
+    pub stop: Stop,
+}
+
+impl Burst {
+    /// No turns yet.
+    pub fn new() -> Self
+        ensures { result ≡ none_made }
+    {
+        Burst {
+            turns: 0,
+            steps: 0,
+            stop: Stop::Paused,
+        }
+    }
+
+    /// Counts a turn.
+    pub(crate) fn count(&mut self, turn: Result<Turn, AllocError>)
+        requires turns { self.old.turns < BURST_TURNS }
+        requires steps { self.old.steps < BURST_TURNS }
+        ensures { self.new ≡ counted self.old turn }
+    {
+        self.turns += 1;
+        match turn {
+            Ok(Turn::Stepped(_)) => self.steps += 1,
+            Ok(Turn::Refilled) => {}
+            Ok(Turn::VcpuHalted) => self.stop = Stop::VcpuHalted,
+            Ok(Turn::GuestEnded(end)) => self.stop = Stop::GuestEnded(end),
+            Err(_) => self.stop = Stop::Memory,
+        }
+    }
+
+    /// These turns, and then the turns of another burst.
+    pub fn then(self, next: Burst) -> Burst
+        requires { self.steps + next.steps < 2 ^ 64 }
+        ensures { result ≡ joined self next }
+    {
+        Burst {
+            turns: self.turns.saturating_add(next.turns),
+            steps: self.steps + next.steps,
+            stop: next.stop,
+        }
+    }
+}

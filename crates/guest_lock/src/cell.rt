@@ -1,0 +1,132 @@
+//! A guest under its lock.
+ghost use Rattle.std.specs.Prelude.{◌≡◌, ◌≢◌, ◌⊎◌, ◌≤◌, ◌∷◌, [], None};
+ghost use Rattle.base_words.specs.declared.events.Event.TheVariants.{Unload};
+ghost use Rattle.shootdown.specs.declared.notes.Note.TheVariants.{Made};
+ghost use Rattle.guest_core.specs.GuestCalls.{processor_of, told_of_turn};
+ghost use Rattle.guest_lock.specs.declared.burst.Stop.TheVariants.{Paused};
+ghost use Rattle.guest_lock.specs.Fits.{Fits, HasVcpu};
+ghost use Rattle.guest_lock.specs.Told.{with_told, shown, vcpu_shown, told_of_loading, HasWaited, Bursts};
+ghost use Rattle.guest_lock.specs.Guests.{IsGuestOf};
+
+use crate::kept::Kept;
+use crate::{BURST_TURNS, Burst, Starts};
+use base_words::VcpuId;
+use guest_core::{Guest, Loaded, Turn};
+use outside_io::{Gate, GatePoint};
+use shootdown::ProcToken;
+use std::alloc::{AllocError, Global};
+use std::marker::PhantomData;
+use std::sync::{Condvar, Mutex, Wait};
+
+/// Guest number `G` of the run that `N` names, under its lock.
+#[derive(Drop)]
+pub struct GuestCell<N: Starts, const G: u8> {
+    guest: Mutex<Kept<N, G>>,
+    moved: Condvar,
+}
+
+impl<N: Starts, const G: u8> GuestCell<N, G> {
+    /// Puts a guest under its lock.
+    pub fn new(guest: Guest) -> Self
+        requires { IsGuestOf N.starts N.board G guest }
+    {
+        GuestCell {
+            guest: Mutex::new(Kept {
+                guest,
+                of: PhantomData,
+            }),
+            moved: Condvar::new(),
+        }
+    }
+
+    /// Loads a virtual processor on the token's processor, and waits while it is loaded on another one. After want of memory no
+    /// entry was made.
+    pub fn load<R: Wait>(
+        &self,
+        rt: &R,
+        token: &mut ProcToken,
+        vcpu: VcpuId,
+    ) -> Result<Loaded, AllocError>
+        requires token { Fits N.starts N.board token.old }
+        requires vcpu { HasVcpu N.starts G vcpu.0 }
+        requires free { shown G token.old ≡ None }
+        ensures told { token.new ≡ with_told token.old G (told_of_loading (processor_of token.old) vcpu result) }
+        ensures waited { HasWaited result }
+    {
+        let mut kept = self.guest.lock(rt);
+        for _ in rt.forever() {
+            match kept.load(token, vcpu) {
+                Ok(Loaded::On(_)) => kept = self.moved.wait(rt, kept),
+                Ok(Loaded::Done) => return Ok(Loaded::Done),
+                Ok(Loaded::Ended(end)) => return Ok(Loaded::Ended(end)),
+                Err(error) => return Err(error),
+            }
+        }
+        unreachable!()
+    }
+
+    /// Passes the gate, and makes a turn of what is loaded on the token's processor.
+    pub fn with_turn<R: Wait, T: Gate>(
+        &self,
+        rt: &R,
+        alloc: Global,
+        token: &mut ProcToken,
+        gate: &T,
+        at: GatePoint,
+    ) -> Result<Turn, AllocError>
+        requires token { Fits N.starts N.board token.old }
+        requires loaded { shown G token.old ≢ None }
+        ensures { token.new ≡ with_told token.old G (told_of_turn (processor_of token.old) (vcpu_shown G token.old) result) }
+    {
+        let mut kept = self.guest.lock(rt);
+        let turn = kept.turn(alloc, token, gate, at);
+        if kept.guest.end().is_some() {
+            self.moved.notify_all();
+        }
+        turn
+    }
+
+    /// Makes turns of what is loaded on the token's processor, each with its gate, and all in one hold of the lock: until one is neither
+    /// a step nor a refill, there were so many steps, or there were as many turns as a burst has.
+    pub fn burst<R: Wait, T: Gate>(
+        &self,
+        rt: &R,
+        alloc: Global,
+        token: &mut ProcToken,
+        gate: &T,
+        at: GatePoint,
+        steps: u64,
+    ) -> Burst
+        requires token { Fits N.starts N.board token.old }
+        requires loaded { shown G token.old ≢ None }
+        ensures few { result.steps ≤ steps }
+        ensures whole { result.stop ≡ Paused → (result.steps ≡ steps) ⊎ (result.turns ≡ BURST_TURNS) }
+        ensures told { Bursts token.old G result token.new }
+    {
+        let mut kept = self.guest.lock(rt);
+        let burst = kept.burst(alloc, token, gate, at, steps);
+        if kept.guest.end().is_some() {
+            self.moved.notify_all();
+        }
+        burst
+    }
+
+    /// Unloads what is loaded on the token's processor.
+    pub fn unload<R: Wait>(&self, rt: &R, token: &mut ProcToken)
+        requires token { Fits N.starts N.board token.old }
+        requires loaded { shown G token.old ≢ None }
+        ensures { token.new ≡ with_told token.old G (Made (Unload (processor_of token.old)) ∷ []) }
+    {
+        self.guest.lock(rt).unload(token);
+        self.moved.notify_all();
+    }
+
+    /// The guest, out of its lock.
+    pub fn take_out(self) -> Guest
+        ensures { IsGuestOf N.starts N.board G result }
+    {
+        let GuestCell { guest, moved: _ } = self;
+        let Kept { guest, of: _ } = guest.into_inner();
+        guest
+    }
+}

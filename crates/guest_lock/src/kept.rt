@@ -1,0 +1,100 @@
+//! What lies under a guest's lock.
+ghost use Rattle.std.specs.Prelude.{◌≡◌, ◌≢◌, ◌⊎◌, ◌≤◌, ◌∷◌, [], None, Some, slice_get};
+ghost use Rattle.base_words.specs.declared.events.End.TheVariants.{Budget};
+ghost use Rattle.base_words.specs.declared.events.Event.TheVariants.{Unload};
+ghost use Rattle.shootdown.specs.declared.notes.Note.TheVariants.{Made};
+ghost use Rattle.guest_core.specs.GuestCalls.{processor_of, told_of_turn};
+ghost use Rattle.guest_lock.specs.declared.burst.Stop.TheVariants.{Paused};
+ghost use Rattle.guest_lock.specs.Fits.{Fits, HasVcpu};
+ghost use Rattle.guest_lock.specs.Told.{with_told, shown, vcpu_shown, told_of_loading, Bursts};
+
+use crate::Starts;
+use crate::burst::{BURST_TURNS, Burst, Stop};
+use base_words::VcpuId;
+use guest_core::{Guest, Loaded, Turn};
+use outside_io::{Gate, GatePoint};
+use shootdown::ProcToken;
+use std::alloc::{AllocError, Global};
+use std::marker::PhantomData;
+
+/// The guest of that number of the run that `N` names. It hasn't ended for the end of the plan.
+#[derive(Drop)]
+pub(crate) struct Kept<N: Starts, const G: u8> {
+    pub(crate) guest: Guest,
+    pub(crate) of: PhantomData<N>,
+    ghost number_is: { guest.number ≡ G },
+    ghost start_is: { slice_get N.starts G ≡ Some guest.start },
+    ghost board_is: { guest.board ≡ N.board },
+    ghost goes_on: { guest.state.end ≢ Some Budget },
+}
+
+impl<N: Starts, const G: u8> Kept<N, G> {
+    /// Makes room, and loads a virtual processor on the token's processor.
+    pub(crate) fn load(&mut self, token: &mut ProcToken, vcpu: VcpuId) -> Result<Loaded, AllocError>
+        requires token { Fits N.starts N.board token.old }
+        requires vcpu { HasVcpu N.starts G vcpu.0 }
+        requires free { shown G token.old ≡ None }
+        ensures { token.new ≡ with_told token.old G (told_of_loading (processor_of token.old) vcpu result) }
+    {
+        self.guest.make_room()?;
+        self.guest.agree(token);
+        Ok(self.guest.load_vcpu(token, vcpu))
+    }
+
+    /// Unloads what is loaded on the token's processor.
+    pub(crate) fn unload(&mut self, token: &mut ProcToken)
+        requires token { Fits N.starts N.board token.old }
+        requires loaded { shown G token.old ≢ None }
+        ensures { token.new ≡ with_told token.old G (Made (Unload (processor_of token.old)) ∷ []) }
+    {
+        self.guest.agree(token);
+        self.guest.unload(token);
+    }
+
+    /// Passes the gate, makes room, and makes a turn of what is loaded on the token's processor.
+    pub(crate) fn turn<T: Gate>(
+        &mut self,
+        alloc: Global,
+        token: &mut ProcToken,
+        gate: &T,
+        at: GatePoint,
+    ) -> Result<Turn, AllocError>
+        requires token { Fits N.starts N.board token.old }
+        requires loaded { shown G token.old ≢ None }
+        ensures { token.new ≡ with_told token.old G (told_of_turn (processor_of token.old) (vcpu_shown G token.old) result) }
+    {
+        gate.pass(at);
+        self.guest.make_room()?;
+        self.guest.agree(token);
+        self.guest.turn(alloc, token)
+    }
+
+    /// Makes turns until one is neither a step nor a refill, there were so many steps, or there were enough turns.
+    pub(crate) fn burst<T: Gate>(
+        &mut self,
+        alloc: Global,
+        token: &mut ProcToken,
+        gate: &T,
+        at: GatePoint,
+        steps: u64,
+    ) -> Burst
+        requires token { Fits N.starts N.board token.old }
+        requires loaded { shown G token.old ≢ None }
+        ensures few { result.steps ≤ steps }
+        ensures whole { result.stop ≡ Paused → (result.steps ≡ steps) ⊎ (result.turns ≡ BURST_TURNS) }
+        ensures told { Bursts token.old G result token.new }
+    {
+        let mut burst = Burst::new();
+        for turn in 0..BURST_TURNS {
+            if burst.steps == steps || burst.stop != Stop::Paused {
+                break;
+            }
+            let here = GatePoint {
+                turn: at.turn.saturating_add(turn),
+                ..at
+            };
+            burst.count(self.turn(alloc, token, gate, here));
+        }
+        burst
+    }
+}

@@ -1,4 +1,0 @@
-pub mod GuestState
-pub mod MachineEvent
-pub mod OwnHistory
-pub mod Run

@@ -1,0 +1,64 @@
+-- How a call may end: by what is to be done, what the sink holds, the record and the exit status.
+use Rattle.std.specs.Prelude.{◌≡◌, ◌⊎◌, ℕ, List, [], Result, Ok, Err}
+use Rattle.outside_io.specs.declared.sink.SinkFault.{SinkFault}
+use Rattle.outside_io.specs.declared.sink.SinkFault.TheVariants.{Failed, Memory}
+use Rattle.outside_io.specs.Writing.{SinkView, Settles, Breaks, Starves}
+use Rattle.guest_core.specs.declared.records.RunRecord.{RunRecord}
+use Rattle.admission.specs.declared.faults.Fault.{Fault}
+use Rattle.admission.specs.Jobs.{Job, Monitored, Alone}
+use Rattle.monitor_run.specs.Alone.{alone_of}
+use Rattle.monitor_run.specs.FaultLines.{fault_line, status_of}
+use Rattle.monitor_run.specs.Monitored.{IsRun}
+use Rattle.monitor_run.specs.Report.{numbered, record_text, alone_text}
+
+-- a record that holds nothing
+abbrev pub nothing : RunRecord
+nothing = record { guests = []; slices = [] }
+
+-- the record of a job that is done; guests that run alone leave none
+abbrev pub IsDone : Job → RunRecord → Type 0
+IsDone (Monitored d starts sums) out = IsRun d starts out
+IsDone (Alone d starts) out = out ≡ nothing
+
+-- its report
+abbrev pub report : Job → RunRecord → List ℕ
+report (Monitored d starts sums) out = numbered (record_text sums) 0 out.guests
+report (Alone d starts) out = numbered alone_text 0 (alone_of d starts)
+
+-- the job is done, and its report is put and settled
+pub record Completes (job : Job) (old new : SinkView) (out : RunRecord) (status : ℕ) : Type 0 where
+  pub answer : status ≡ 0
+  pub done : IsDone job out
+  pub sink : Settles old new (report job out)
+
+-- the job is done, and the output failed
+pub record Unwritten (job : Job) (old new : SinkView) (out : RunRecord) (status : ℕ) : Type 0 where
+  pub answer : status ≡ 4
+  pub done : IsDone job out
+  pub sink : Breaks old new (report job out)
+
+-- memory was wanting, before a text was put or within it
+pub record Wants (text : List ℕ) (old new : SinkView) (status : ℕ) : Type 0 where
+  pub answer : status ≡ 1
+  pub sink : Starves old new text
+
+-- the status of a job that is done, by what became of its report
+abbrev pub status_put : Result (Unit {0}) SinkFault → ℕ
+status_put (Ok done) = 0
+status_put (Err Failed) = 4
+status_put (Err Memory) = 1
+
+-- the job is refused, with one line
+pub record Refuses (fault : Fault) (old new : SinkView) (status : ℕ) : Type 0 where
+  pub answer : status ≡ status_of fault
+  pub sink : Settles old new (fault_line fault) ⊎ Breaks old new (fault_line fault)
+
+-- a refusal is told, or memory was wanting
+abbrev pub Tells : Fault → SinkView → SinkView → ℕ → Type 0
+Tells fault old new status = Refuses fault old new status ⊎ Wants (fault_line fault) old new status
+
+abbrev pub Ends : Result Job Fault → SinkView → SinkView → RunRecord → ℕ → Type 0
+Ends (Ok job) old new out status =
+    Completes job old new out status ⊎ (Unwritten job old new out status
+    ⊎ ((IsDone job out ⊎ (out ≡ nothing)) × Wants (report job out) old new status))
+Ends (Err fault) old new out status = (out ≡ nothing) × Tells fault old new status

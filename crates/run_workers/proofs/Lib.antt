@@ -1,0 +1,13 @@
+pub mod NoteLists
+pub mod JournalLemmas
+pub mod SliceLemmas
+pub mod ServeLemmas
+pub mod DealLemmas
+pub mod DueLemmas
+pub mod LoopLemmas
+pub mod WholeLemmas
+pub mod RunLemmas
+pub mod ServingLemmas
+pub mod TopLemmas
+pub mod BootLemmas
+pub mod EndLemmas

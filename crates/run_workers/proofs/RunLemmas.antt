@@ -1,0 +1,204 @@
+-- A named run: its guests under their locks, its workers before and after, and what is left.
+use Rattle.std.proofs.Common.{◌≡◌, ◌≢◌, ℕ, zero, suc, ◌+◌, ◌<◌, ◌≤◌, List, [], ◌∷◌, ◌++◌, map, length, All, refl, sym, ap, ◌∙◌, subst, arith, append_assoc, length-append, Option, Some, None, get_or, Vec}
+use Rattle.std.specs.Prelude.{slice_get, slice_index_or, option_map}
+use Rattle.std.specs.declared.alloc.Global.{Global}
+use Rattle.atomic_table.specs.Seated.{TableId}
+use Rattle.base_words.specs.declared.events.End.TheVariants.{Budget}
+use Rattle.shootdown.specs.Notes.{Token, Seat}
+use Rattle.shootdown.specs.Making.{numbered, fresh_token}
+use Rattle.isolation_law.specs.GuestState.{GuestState}
+use Rattle.isolation_law.specs.Start.{Boot}
+use Rattle.machine_desc.specs.declared.plan.Item.{Item}
+use Rattle.machine_desc.specs.declared.plan.Item.TheVariants.{Run, Move, Fail}
+use Rattle.guest_core.specs.GuestView.{Monitored}
+use Rattle.guest_core.specs.Records.{IsRecord}
+use Rattle.guest_core.specs.declared.records.GuestRecord.{GuestRecord}
+use Rattle.guest_core.specs.declared.records.SliceRecord.{SliceRecord}
+use Rattle.guest_lock.specs.Fits.{Fits}
+use Rattle.guest_lock.specs.Guests.{IsGuestOf, GuestsFrom}
+use Rattle.run_workers.specs.Planned.{Planned, planned}
+use Rattle.run_workers.specs.WholeRecord.{AreRecords}
+use Rattle.run_workers.specs.Slices.{own, AreTold}
+use Rattle.run_workers.specs.Dealt.{queue_of}
+use Rattle.run_workers.specs.Working.{ItemFits, IsOn}
+use Rattle.run_workers.specs.Workers.{IsReady, Works}
+use Rattle.run_workers.specs.Parts.{token_of, slices_of}
+use Rattle.run_workers.specs.Booting.{start_of, IsFresh}
+use Rattle.run_workers.specs.Ending.{Leaves, AreLeft}
+use Rattle.run_workers.specs.Named.{MayRun}
+use Rattle.run_workers.specs.declared.workers.Worker.{Worker}
+use Rattle.run_workers.proofs.NoteLists.{Every}
+use Rattle.run_workers.proofs.WholeLemmas.{get-index, all-get, get-there}
+use Rattle.run_workers.proofs.DueLemmas.{IsPlace}
+
+-- ---- lists by their places
+
+pub get-map : {A B : Type 0} (f : A → B) (xs : List A) (i : ℕ) (y : B) → slice_get (map f xs) i ≡ Some y → (x : A) × (slice_get xs i ≡ Some x) × (f x ≡ y)
+get-map f [] i y e = absurd cc
+get-map f (x ∷ xs) zero y e = (x, refl, cc)
+get-map f (x ∷ xs) (suc i) y e = get-map f xs i y e
+
+pub map-get : {A B : Type 0} (f : A → B) (xs : List A) (i : ℕ) (x : A) → slice_get xs i ≡ Some x → slice_get (map f xs) i ≡ Some (f x)
+map-get f [] i x e = absurd cc
+map-get f (y ∷ ys) zero x e = let same : y ≡ x = cc in ap (λ z. Some (f z)) same
+map-get f (y ∷ ys) (suc i) x e = map-get f ys i x e
+
+some-same : {A : Type 0} (x y : A) → Some x ≡ Some y → x ≡ y
+some-same x y e = cc
+
+numbered-get : {A : Type 0} (f : ℕ → A) (k n i : ℕ) → i < n → slice_get (numbered f k n) i ≡ Some (f (k + i))
+numbered-get f k zero i l = absurd (omega arith)
+numbered-get f k (suc n) zero l = ap (λ j. Some (f j)) (let e : k ≡ k + 0 = omega arith in e)
+numbered-get f k (suc n) (suc i) l = numbered-get f (suc k) n i (omega arith) ∙ ap (λ j. Some (f j)) (let e : suc k + i ≡ k + suc i = omega arith in e)
+
+pub numbered-length : {A : Type 0} (f : ℕ → A) (k n : ℕ) → length (numbered f k n) ≡ n
+numbered-length f k zero = refl
+numbered-length f k (suc n) = ap suc (numbered-length f (suc k) n)
+
+-- ---- guests under their locks
+
+fresh-guests : (board : TableId) (pre : List Boot) (k : ℕ) (guests : List Monitored) → k ≡ length pre → ((i : ℕ) (g : Monitored) → slice_get guests i ≡ Some g → IsFresh board (k + i) g) → GuestsFrom (pre ++ map start_of guests) board k guests
+fresh-guests board pre k [] e fresh = let n = length-append pre [] in omega arith
+fresh-guests board pre k (g ∷ guests) e fresh =
+    let first = fresh zero g refl in
+    let here : k + 0 ≡ k = omega arith in
+    let longer : k + 1 ≡ length (pre ++ g.start ∷ []) = (let n = length-append pre (g.start ∷ []) in omega arith) in (
+      record {
+        number_is = first.number_is ∙ here;
+        start_is = at-end pre g.start (map start_of guests) k e;
+        board_is = first.board_is;
+        goes_on = λ same. (let both : None ≡ Some Budget = sym first.goes_on ∙ same in absurd cc);
+      },
+      subst (λ l. GuestsFrom l board (k + 1) guests) (append_assoc pre (g.start ∷ []) (map start_of guests))
+          (fresh-guests board (pre ++ g.start ∷ []) (k + 1) guests longer (λ i h at. subst (λ n. IsFresh board n h) (let n : k + suc i ≡ k + 1 + i = omega arith in n) (fresh (suc i) h at))),
+    )
+  where
+    at-end : (pre : List Boot) (x : Boot) (xs : List Boot) (k : ℕ) → k ≡ length pre → slice_get (pre ++ x ∷ xs) k ≡ Some x
+    at-end pre x xs k e = ap (slice_get (pre ++ x ∷ xs)) e ∙ here pre x xs
+      where
+        here : (pre : List Boot) (x : Boot) (xs : List Boot) → slice_get (pre ++ x ∷ xs) (length pre) ≡ Some x
+        here [] x xs = refl
+        here (p ∷ pre) x xs = here pre x xs
+
+pub all-guests : (board : TableId) (guests : List Monitored) → ((g : ℕ) (guest : Monitored) → slice_get guests g ≡ Some guest → IsFresh board g guest) → GuestsFrom (map start_of guests) board 0 guests
+all-guests board guests fresh = fresh-guests board [] 0 guests refl (λ i g at. subst (λ n. IsFresh board n g) (let e : i ≡ 0 + i = omega arith in e) (fresh i g at))
+
+-- ---- workers
+
+fresh-token-at : (board : TableId) (tokens : List Token) (ws : List Worker) (i : ℕ) (w : Worker) → tokens ≡ numbered (fresh_token board) 0 (length tokens) → map token_of ws ≡ tokens → slice_get ws i ≡ Some w → (i < length tokens) × (w.token ≡ fresh_token board i)
+fresh-token-at board tokens ws i w all are at =
+    let there = ap (λ l. slice_get l i) (sym are) ∙ map-get token_of ws i w at in
+    let few = (get-index tokens i w.token w.token there).0 in
+    let is : Some w.token ≡ Some (fresh_token board (0 + i)) = sym there ∙ ap (λ l. slice_get l i) all ∙ numbered-get (fresh_token board) 0 (length tokens) i few in
+    (few, some-same _ _ is ∙ ap (fresh_token board) (let e : 0 + i ≡ i = omega arith in e))
+
+fits-at : (guests : List Monitored) (board : TableId) (count i : ℕ) (token : Token) → ((g : ℕ) (guest : Monitored) → slice_get guests g ≡ Some guest → length guest.start.around.processors ≡ count) → i < count → token ≡ fresh_token board i → Fits (map start_of guests) board token
+fits-at guests board count i token processors few is = record {
+  board_is = ap (λ (t : Token). t.board) is;
+  is_processor = λ g b named.
+      let guest = get-map start_of guests g b named in
+      let many = processors g guest.0 guest.1 in
+      let same = ap (λ (s : Boot). length s.around.processors) guest.2 in
+      let number = ap (λ (t : Token). t.number) is in
+      omega (arith, many, same, number, few);
+}
+
+pub ready : (guests : List Monitored) (board : TableId) (tokens : List Token) (ws : List Worker) → tokens ≡ numbered (fresh_token board) 0 (length tokens) → ((g : ℕ) (guest : Monitored) → slice_get guests g ≡ Some guest → length guest.start.around.processors ≡ length tokens) → map token_of ws ≡ tokens → (i : ℕ) (d : Worker) → i < length ws → IsReady (map start_of guests) board (slice_index_or ws i d)
+ready guests board tokens ws all processors are i d l =
+    let there = get-there ws i l in
+    let at = fresh-token-at board tokens ws i there.0 all are there.1 in
+    subst (IsReady (map start_of guests) board) (sym (get-index ws i there.0 d there.1).1) (record {
+      fits = fits-at guests board (length tokens) i there.0.token processors at.0 at.1;
+      no_notes = ap (λ (t : Token). t.notes) at.1;
+    })
+
+slices-made : (w : Worker) (queue : List SliceRecord) → Some queue ≡ slices_of w → (v : Vec SliceRecord Global) × (w.slices ≡ Some v) × (v.items ≡ queue)
+slices-made w queue e = by w.slices refl e
+  where
+    by : (o : Option (Vec SliceRecord Global)) → w.slices ≡ o → Some queue ≡ option_map (λ v. v.items) o → (v : Vec SliceRecord Global) × (w.slices ≡ Some v) × (v.items ≡ queue)
+    by None is e = absurd cc
+    by (Some v) is e = (v, is, some-same _ _ (sym e))
+
+-- what a processor's token was told of in the end
+pub record Done (board : TableId) (plan : List Planned) (queues : List (List SliceRecord)) (p : ℕ) (token : Token) : Type 0 where
+  pub number_is : token.number ≡ p
+  pub board_is : token.board ≡ board
+  pub told : AreTold (own p plan) (queue_of queues p) token.notes
+
+pub done-at : (board : TableId) (items : List Item) (tokens : List Token) (was now : List Worker) (queues : List (List SliceRecord)) → tokens ≡ numbered (fresh_token board) 0 (length tokens) → map token_of was ≡ tokens → length now ≡ length was → ((i : ℕ) (d : Worker) → i < length was → Works items (slice_index_or was i d) (slice_index_or now i d)) → map Some queues ≡ map slices_of now → (p : ℕ) (t : Token) → slice_get (map token_of now) p ≡ Some t → Done board (planned 0 items) queues p t
+done-at board items tokens was now queues all are same each made p t e =
+    let w = get-map token_of now p t e in
+    let few = (get-index now p w.0 w.0 w.1).0 in
+    let below : p < length was = omega arith in
+    let old = get-there was p below in
+    let at = fresh-token-at board tokens was p old.0 all are old.1 in
+    let works : Works items old.0 w.0 = subst (λ o. Works items o w.0) (get-index was p old.0 w.0 old.1).1 (subst (Works items (slice_index_or was p w.0)) (get-index now p w.0 w.0 w.1).1 (each p w.0 below)) in
+    let queue = get-map Some queues p (slices_of w.0) (ap (λ l. slice_get l p) made ∙ map-get slices_of now p w.0 w.1) in
+    let slices = slices-made w.0 queue.0 queue.2 in
+    let number : w.0.token.number ≡ p = works.same.number ∙ ap (λ (s : Token). s.number) at.1 in
+    let board_was : w.0.token.board ≡ board = works.same.board ∙ ap (λ (s : Token). s.board) at.1 in
+    let told = works.told slices.0 slices.1 in
+    let left : slices.0.items ≡ queue_of queues p = slices.2 ∙ sym (get-index queues p queue.0 [] queue.1).1 in
+    subst (Done board (planned 0 items) queues p) w.2 (record {
+      number_is = number;
+      board_is = board_was;
+      told = subst (λ n. AreTold (own n (planned 0 items)) (queue_of queues p) w.0.token.notes) number (subst (λ q. AreTold (own w.0.token.number (planned 0 items)) q w.0.token.notes) left told);
+    })
+
+-- ---- items
+
+pub all-places : (starts : List Boot) (count : ℕ) (states : List GuestState) (k : ℕ) (items : List Item) → length states ≡ length starts → All (ItemFits starts) items → All (IsOn count) items → Every (IsPlace count states) (planned k items)
+all-places starts count states k [] same places on = tt
+all-places starts count states k (Run p g v steps ∷ items) same places on =
+    let place : ItemFits starts (Run p g v steps) = places 0 (Run p g v steps) (omega arith) in
+    let few = (get-index starts g.0 place.start place.start place.named).0 in
+    let there = get-there states g.0 (let l : g.0 < length states = omega arith in l) in (
+      record { on = on 0 (Run p g v steps) (omega arith); state = there.0; of = there.1 },
+      all-places starts count states (suc k) items same (λ i d l. places (suc i) d (omega arith)) (λ i d l. on (suc i) d (omega arith)),
+    )
+all-places starts count states k (Move p g page kind node ∷ items) same places on = all-places starts count states (suc k) items same (λ i d l. places (suc i) d (omega arith)) (λ i d l. on (suc i) d (omega arith))
+all-places starts count states k (Fail p cell ∷ items) same places on = all-places starts count states (suc k) items same (λ i d l. places (suc i) d (omega arith)) (λ i d l. on (suc i) d (omega arith))
+
+-- ---- what is left
+
+pub all-processors : (guests : List Monitored) (count : ℕ) → ((g : ℕ) (guest : Monitored) → slice_get guests g ≡ Some guest → length guest.start.around.processors ≡ count) → All (λ (b : Boot). length b.around.processors ≡ count) (map start_of guests)
+all-processors guests count processors i d l =
+    let there = get-there (map start_of guests) i l in
+    let guest = get-map start_of guests i there.0 there.1 in
+    ap (λ (b : Boot). length b.around.processors) ((get-index (map start_of guests) i there.0 d there.1).1 ∙ sym guest.2) ∙ processors i guest.0 guest.1
+
+pub seat-boards : (starts : List Boot) (board : TableId) (k : ℕ) (states : List GuestState) (lefts : List GuestRecord) (seats : List Seat) → AreLeft starts board k states lefts seats → All (λ (s : Seat). s.board ≡ board) seats
+seat-boards starts board k [] [] [] are i d l = absurd (let m : i < 0 = l in omega arith)
+seat-boards starts board k [] [] (t ∷ seats) are i d l = absurd are
+seat-boards starts board k [] (r ∷ lefts) seats are i d l = absurd are
+seat-boards starts board k (s ∷ states) [] seats are i d l = absurd are
+seat-boards starts board k (s ∷ states) (r ∷ lefts) [] are i d l = absurd are
+seat-boards starts board k (s ∷ states) (r ∷ lefts) (t ∷ seats) are zero d l = are.0.2.board_is
+seat-boards starts board k (s ∷ states) (r ∷ lefts) (t ∷ seats) are (suc i) d l = seat-boards starts board (k + 1) states lefts seats are.1 i d (omega arith)
+
+pub token-boards : (board : TableId) (plan : List Planned) (queues : List (List SliceRecord)) (tokens : List Token) → ((p : ℕ) (t : Token) → slice_get tokens p ≡ Some t → Done board plan queues p t) → All (λ (t : Token). t.board ≡ board) tokens
+token-boards board plan queues tokens done i d l =
+    let there = get-there tokens i l in
+    ap (λ (t : Token). t.board) (get-index tokens i there.0 d there.1).1 ∙ (done i there.0 there.1).board_is
+
+records-from : (pre boots : List Boot) (board : TableId) (k : ℕ) (states : List GuestState) (lefts : List GuestRecord) (seats : List Seat) → k ≡ length pre → AreLeft (pre ++ boots) board k states lefts seats → length lefts ≡ length boots → AreRecords boots states lefts
+records-from pre [] board k [] [] [] e are same = tt
+records-from pre (b ∷ boots) board k [] [] [] e are same = absurd (let m : 0 ≡ suc (length boots) = same in omega arith)
+records-from pre boots board k [] [] (t ∷ seats) e are same = absurd are
+records-from pre boots board k [] (r ∷ lefts) seats e are same = absurd are
+records-from pre boots board k (s ∷ states) [] seats e are same = absurd are
+records-from pre boots board k (s ∷ states) (r ∷ lefts) [] e are same = absurd are
+records-from pre [] board k (s ∷ states) (r ∷ lefts) (t ∷ seats) e are same = absurd (let m : suc (length lefts) ≡ 0 = same in omega arith)
+records-from pre (b ∷ boots) board k (s ∷ states) (r ∷ lefts) (t ∷ seats) e are same =
+    let start : are.0.0 ≡ b = some-same _ _ (sym are.0.1 ∙ ap (slice_get (pre ++ b ∷ boots)) e ∙ here pre b boots) in
+    let longer : k + 1 ≡ length (pre ++ b ∷ []) = (let n = length-append pre (b ∷ []) in omega arith) in (
+      subst (λ (x : Boot). IsRecord x s r) start are.0.2.record_is,
+      records-from (pre ++ b ∷ []) boots board (k + 1) states lefts seats longer (subst (λ l. AreLeft l board (k + 1) states lefts seats) (sym (append_assoc pre (b ∷ []) boots)) are.1) (omega arith),
+    )
+  where
+    here : (pre : List Boot) (x : Boot) (xs : List Boot) → slice_get (pre ++ x ∷ xs) (length pre) ≡ Some x
+    here [] x xs = refl
+    here (p ∷ pre) x xs = here pre x xs
+
+pub all-records : (boots : List Boot) (board : TableId) (states : List GuestState) (lefts : List GuestRecord) (seats : List Seat) → AreLeft boots board 0 states lefts seats → length lefts ≡ length boots → AreRecords boots states lefts
+all-records boots board states lefts seats are same = records-from [] boots board 0 states lefts seats refl are same

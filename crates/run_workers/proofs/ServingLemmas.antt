@@ -1,0 +1,75 @@
+-- One item: what its token is told from the load to the unload.
+use Rattle.std.proofs.Common.{◌≡◌, ◌≢◌, ℕ, List, [], ◌∷◌, ◌++◌, refl, sym, ap, ◌∙◌, subst, Option, Some, None, unwrap_or, false, true}
+use Rattle.base_words.specs.declared.ids.ProcId.{ProcId}
+use Rattle.base_words.specs.declared.ids.VcpuId.{VcpuId}
+use Rattle.base_words.specs.declared.events.End.{End}
+use Rattle.base_words.specs.declared.events.Event.TheVariants.{Load, Unload}
+use Rattle.shootdown.specs.declared.notes.Note.{Note}
+use Rattle.shootdown.specs.declared.notes.Note.TheVariants.{Made, Ended}
+use Rattle.shootdown.specs.Notes.{Token}
+use Rattle.guest_core.specs.Noting.{loaded_by}
+use Rattle.guest_core.specs.GuestCalls.{processor_of}
+use Rattle.guest_core.specs.declared.records.Cut.{Cut}
+use Rattle.guest_lock.specs.declared.burst.Burst.{Burst}
+use Rattle.guest_lock.specs.declared.burst.Stop.TheVariants as stop
+use Rattle.guest_lock.specs.Told.{with_told, shown, vcpu_shown, told_of_stop, AreSteps, Bursts}
+use Rattle.run_workers.specs.declared.serving.Job.{Job}
+use Rattle.run_workers.specs.Jobs.{planned_job}
+use Rattle.run_workers.specs.Slices.{IsCause, framed, Serves}
+
+-- the laws of guest_lock
+abbrev pub Grows : Type 0
+Grows = (token : Token) (g : ℕ) (first next : List Note) → with_told (with_told token g first) g next ≡ with_told token g (first ++ next)
+
+abbrev pub Shows : Type 0
+Shows = (token : Token) (g : ℕ) (told : List Note) → shown g (with_told token g told) ≡ loaded_by (shown g token) told
+
+pub loaded-shown : Shows → (old new : Token) (g : ℕ) (p : ProcId) (v : VcpuId) → new ≡ with_told old g (Made (Load p v) ∷ []) → shown g new ≡ Some v.0
+loaded-shown shows old new g p v e = ap (shown g) e ∙ shows old g (Made (Load p v) ∷ [])
+
+pub served-done : Grows → Shows → (g : ℕ) (job : Job) (old loaded turned new : Token) (burst : Burst) (cut : Cut) → job.guest.0 ≡ g →
+    loaded ≡ with_told old g (Made (Load (processor_of old) job.vcpu) ∷ []) → Bursts loaded g burst turned →
+    new ≡ with_told turned g (Made (Unload (processor_of turned)) ∷ []) → IsCause job.steps burst.steps burst.stop cut →
+    Serves (planned_job old.number job) old (record { item = job.item; steps = burst.steps; cause = cut }) new
+served-done grows shows g job old loaded turned new burst cut guest load bursts unload cause =
+    let p = processor_of old in
+    let v = job.vcpu in
+    let processor : processor_of loaded ≡ p = ap processor_of load in
+    let vcpu : vcpu_shown g loaded ≡ v = ap (λ s. record { 0 = unwrap_or s 0 }) (loaded-shown shows old loaded g p v load) in
+    let body = bursts.made ++ told_of_stop v burst.stop in
+    let turns : turned ≡ with_told loaded g body = bursts.token ∙ ap (λ u. with_told loaded g (bursts.made ++ told_of_stop u burst.stop)) vcpu in
+    let all : turned ≡ with_told old g (Made (Load p v) ∷ body) = turns ∙ ap (λ (t : Token). with_told t g body) load ∙ grows old g (Made (Load p v) ∷ []) body in
+    let told = framed true p v body in
+    let token : new ≡ with_told old g told = unload ∙ ap (λ (t : Token). with_told t g (Made (Unload (processor_of t)) ∷ [])) all ∙ grows old g (Made (Load p v) ∷ body) (Made (Unload p) ∷ []) in
+    record {
+      told = told;
+      is = record {
+        number = refl;
+        loaded = true;
+        made = bursts.made;
+        by = burst.stop;
+        steps = subst (λ u. AreSteps p u burst.steps bursts.made) vcpu (subst (λ q. AreSteps q (vcpu_shown g loaded) burst.steps bursts.made) processor bursts.steps);
+        notes = refl;
+        cause = cause;
+      };
+      token = token ∙ ap (λ k. with_told old k told) (sym guest);
+    }
+
+pub served-ended : (g : ℕ) (job : Job) (old new : Token) (burst : Burst) (end : End) (cut : Cut) → job.guest.0 ≡ g →
+    burst ≡ record { turns = 0; steps = 0; stop = stop.GuestEnded end } → new ≡ with_told old g (Ended end ∷ []) → IsCause job.steps burst.steps burst.stop cut →
+    Serves (planned_job old.number job) old (record { item = job.item; steps = burst.steps; cause = cut }) new
+served-ended g job old new burst end cut guest none token cause =
+    let steps : burst.steps ≡ 0 = ap (λ (b : Burst). b.steps) none in
+    record {
+      told = Ended end ∷ [];
+      is = record {
+        number = refl;
+        loaded = false;
+        made = [];
+        by = burst.stop;
+        steps = subst (λ n. AreSteps (processor_of old) job.vcpu n []) (sym steps) tt;
+        notes = ap (λ (b : Burst). told_of_stop job.vcpu b.stop) (sym none);
+        cause = cause;
+      };
+      token = token ∙ ap (λ k. with_told old k (Ended end ∷ [])) (sym guest);
+    }

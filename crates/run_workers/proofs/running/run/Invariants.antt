@@ -1,0 +1,8 @@
+use Rattle.std.proofs.Common.{map}
+use Rattle.run_workers.specs.Booting.{start_of}
+use Rattle.run_workers.specs.Named.{board_of_tokens}
+use Rattle.run_workers.proofs.running.run.Given as goal
+
+-- the run is named by what its guests were booted with, and by its tokens' board
+abbrev pub ghosts-run_named : goal.ghosts-run_named
+ghosts-run_named g a = record { starts = map start_of a.guests.items; board = board_of_tokens a.tokens }

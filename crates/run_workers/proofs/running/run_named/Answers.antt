@@ -1,0 +1,108 @@
+use Rattle.std.proofs.Common.{rules, ◌≡◌, ◌<◌, ◌++◌, map, Some, sym, subst, refl, ◌∙◌, ap, length, List, All, arith}
+use Rattle.std.specs.Prelude.{slice_index_or, slice_get}
+use Rattle.std.proofs.lemmas.List.{length-map, with_items_is}
+use Rattle.shootdown.specs.Notes.{Token, Seat, AreInStep}
+use Rattle.isolation_law.specs.Start.{Boot}
+use Rattle.machine_desc.specs.declared.plan.Item.{Item}
+use Rattle.guest_core.specs.declared.records.SliceRecord.{SliceRecord}
+use Rattle.guest_lock.specs.Guests.{GuestsFrom}
+use Rattle.run_workers.specs.Planned.{planned}
+use Rattle.run_workers.specs.Working.{ItemFits, IsOn}
+use Rattle.run_workers.specs.Workers.{IsReady, Works}
+use Rattle.run_workers.specs.Parts.{token_of, slices_of, slices_in}
+use Rattle.run_workers.specs.Booting.{start_of, IsFresh}
+use Rattle.run_workers.specs.Ending.{AllLeft}
+use Rattle.run_workers.specs.Named.{board_of_tokens}
+use Rattle.run_workers.specs.declared.workers.Worker.{Worker}
+use Rattle.run_workers.proofs.WholeLemmas.{Leftover, is-due, state-count}
+use Rattle.run_workers.proofs.RunLemmas.{all-guests, ready, Done, done-at, all-places, all-processors, seat-boards, token-boards, all-records}
+use Rattle.run_workers.specs.PlanDue.{IsDue}
+use Rattle.run_workers.specs.Dealt.{dealt}
+use Rattle.run_workers.proofs.NoteLists.{Every}
+use Rattle.run_workers.proofs.DueLemmas.{IsPlace}
+use Rattle.run_workers.proofs.running.run_named.Goals as goal
+
+pub new-cells-requires : goal.new-cells-requires
+new-cells-requires g c =
+    let board = board_of_tokens c.args.tokens in
+    subst (λ b. GuestsFrom g.N.Starts.starts b 0 c.args.guests.items) (sym c.requires.board)
+    (subst (λ (s : List Boot). GuestsFrom s board 0 c.args.guests.items) (sym c.requires.starts) (all-guests board c.args.guests.items c.requires.may.guests_are))
+
+pub all_work-requires-clause-ready : goal.all_work-requires-clause-ready
+all_work-requires-clause-ready g c κs within = λ i d l.
+    let may = c.requires.may in
+    let board = board_of_tokens c.args.tokens in
+    let was = c.deref_mut.result.now in
+    let tokens : map token_of was ≡ c.args.tokens = search rules in
+    let is = ready c.args.guests.items board c.args.tokens was may.tokens_are may.processors tokens i d l in
+    subst (λ b. IsReady g.N.Starts.starts b (slice_index_or was i d)) (sym c.requires.board) (subst (λ (s : List Boot). IsReady s board (slice_index_or was i d)) (sym c.requires.starts) is)
+
+pub close_notes-requires : goal.close_notes-requires
+close_notes-requires g c =
+    let may = c.requires.may in
+    let board = board_of_tokens c.args.tokens in
+    let was = c.deref_mut.result.now in
+    let now = c.all_work.new.workers in
+    let tokens : map token_of was ≡ c.args.tokens = search rules in
+    let same : length now ≡ c.in_ok-workers.workers.len = c.all_work.ensures.all ∙ c.deref_mut.ensures.len in
+    let all = with_items_is c.in_ok-workers.workers now same in
+    let tokens-are : c.in_ok-tokens.tokens ≡ map token_of now = c.in_ok-tokens.ensures.tokens ∙ ap (map token_of) all in
+    let made : map Some (slices_in c.in_ok-tokens.queues.items) ≡ map slices_of now = c.in_ok-tokens.ensures.slices ∙ ap (map slices_of) all in
+    let done = done-at board c.args.plan.now.items c.args.tokens was now (slices_in c.in_ok-tokens.queues.items) may.tokens_are tokens c.all_work.ensures.all c.all_work.ensures.each made in
+    let left : AllLeft g.N.Starts.starts g.N.Starts.board c.in_ok-guests.guests c.in_ok-guests.seats = c.in_ok-guests.ensures in
+    record {
+      board = board;
+      of_tokens = subst (λ (l : List Token). All (λ (t : Token). t.board ≡ board) l) (sym tokens-are) (token-boards board (planned 0 c.args.plan.now.items) (slices_in c.in_ok-tokens.queues.items) (map token_of now) done);
+      of_seats = subst (λ b. All (λ (s : Seat). s.board ≡ b) c.in_ok-guests.seats) c.requires.board (seat-boards g.N.Starts.starts g.N.Starts.board 0 left.states c.in_ok-guests.guests c.in_ok-guests.seats left.each);
+    }
+
+pub in_order-requires : goal.in_order-requires
+in_order-requires g c = λ i d l.
+    let was = c.deref_mut.result.now in
+    let now = c.all_work.new.workers in
+    let tokens : map token_of was ≡ c.args.tokens = search rules in
+    let same : length now ≡ c.in_ok-workers.workers.len = c.all_work.ensures.all ∙ c.deref_mut.ensures.len in
+    let all = with_items_is c.in_ok-workers.workers now same in
+    let made : map Some (slices_in c.in_ok-tokens.queues.items) ≡ map slices_of now = c.in_ok-tokens.ensures.slices ∙ ap (map slices_of) all in
+    let count : length c.args.tokens ≡ length c.in_ok-tokens.queues.items =
+    ap length (sym tokens) ∙ length-map was token_of ∙ sym c.all_work.ensures.all ∙ sym (length-map now slices_of) ∙ ap length (sym made) ∙ length-map (slices_in c.in_ok-tokens.queues.items) Some ∙ length-map c.in_ok-tokens.queues.items _ in
+    let on : All (IsOn (length c.in_ok-tokens.queues.items)) c.args.plan.now.items = subst (λ n. All (IsOn n) c.args.plan.now.items) count c.requires.may.on in
+    subst (λ (l : List Item). All (IsOn (length c.in_ok-tokens.queues.items)) l) (sym c.as_slice.ensures) on i d l
+
+pub returns : goal.returns
+returns g c =
+    let may = c.requires.may in
+    let board = board_of_tokens c.args.tokens in
+    let starts = map start_of c.args.guests.items in
+    let was = c.deref_mut.result.now in
+    let now = c.all_work.new.workers in
+    let items = c.args.plan.now.items in
+    let queues = slices_in c.in_ok-tokens.queues.items in
+    let lefts = c.in_ok-guests.guests in
+    let seats = c.in_ok-guests.seats in
+    let tokens : map token_of was ≡ c.args.tokens = search rules in
+    let same : length now ≡ c.in_ok-workers.workers.len = c.all_work.ensures.all ∙ c.deref_mut.ensures.len in
+    let all = with_items_is c.in_ok-workers.workers now same in
+    let tokens-are : c.in_ok-tokens.tokens ≡ map token_of now = c.in_ok-tokens.ensures.tokens ∙ ap (map token_of) all in
+    let made : map Some queues ≡ map slices_of now = c.in_ok-tokens.ensures.slices ∙ ap (map slices_of) all in
+    let done = done-at board items c.args.tokens was now queues may.tokens_are tokens c.all_work.ensures.all c.all_work.ensures.each made in
+    let left : AllLeft starts board lefts seats = subst (λ b. AllLeft starts b lefts seats) c.requires.board (subst (λ (s : List Boot). AllLeft s g.N.Starts.board lefts seats) c.requires.starts c.in_ok-guests.ensures) in
+    let out = map token_of now in
+    let many : length out ≡ length c.args.tokens = length-map now token_of ∙ c.all_work.ensures.all ∙ sym (length-map was token_of) ∙ ap length tokens in
+    let states = state-count starts board 0 left.states lefts seats left.each ∙ left.count in
+    let over : Leftover starts board (planned 0 items) out queues left.states lefts seats = record {
+      some = subst (λ n. 0 < n) (sym many) may.some;
+      numbers = λ p t at. (done p t at).number_is;
+      told = λ p t at. (done p t at).told;
+      queues_are = sym (length-map queues Some) ∙ ap length made ∙ length-map now slices_of ∙ sym (length-map now token_of);
+      left = left.each;
+      processors = subst (λ n. All (λ (b : Boot). length b.around.processors ≡ n) starts) (sym many) (all-processors c.args.guests.items (length c.args.tokens) may.processors);
+      in_step = subst (λ (l : List Token). AreInStep l seats) tokens-are c.close_notes.ensures;
+      places = subst (λ n. Every (IsPlace n left.states) (planned 0 items)) (sym many) (all-places starts (length c.args.tokens) left.states 0 items states may.places may.on);
+    } in
+    let slices : c.in_ok-in_order.field-0 ≡ dealt (planned 0 items) queues = c.in_ok-in_order.ensures ∙ ap (λ (l : List Item). dealt (planned 0 l) queues) c.as_slice.ensures in
+    record {
+      states = left.states;
+      guests = all-records starts board left.states lefts seats left.each left.count;
+      due = subst (λ (s : List SliceRecord). IsDue (planned 0 items) left.states lefts s) (sym slices) (is-due starts board (planned 0 items) out queues left.states lefts seats over);
+    }

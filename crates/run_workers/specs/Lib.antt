@@ -1,0 +1,13 @@
+pub mod Starting
+pub mod Planned
+pub mod PlanDue
+pub mod WholeRecord
+pub mod Slices
+pub mod Working
+pub mod Jobs
+pub mod Dealt
+pub mod Ending
+pub mod Workers
+pub mod Parts
+pub mod Booting
+pub mod Named

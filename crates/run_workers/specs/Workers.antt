@@ -1,0 +1,29 @@
+-- Workers before and after their work.
+use Rattle.std.specs.Prelude.{◌≡◌, ℕ, ◌+◌, ◌<◌, ◌≤◌, ◌^◌, List, [], ◌∷◌, length, All, Option, Some, Vec}
+use Rattle.std.specs.declared.alloc.Global.{Global}
+use Rattle.atomic_table.specs.Seated.{TableId}
+use Rattle.shootdown.specs.Notes.{Token}
+use Rattle.isolation_law.specs.Start.{Boot}
+use Rattle.machine_desc.specs.declared.plan.Item.{Item}
+use Rattle.guest_core.specs.declared.records.SliceRecord.{SliceRecord}
+use Rattle.guest_lock.specs.Fits.{Fits}
+use Rattle.run_workers.specs.Planned.{planned}
+use Rattle.run_workers.specs.Slices.{own, AreTold}
+use Rattle.run_workers.specs.Working.{IsSameToken, ItemFits}
+use Rattle.run_workers.specs.declared.workers.Worker.{Worker}
+
+-- the plan is one of the run's guests
+pub record IsPlanOf (starts : List Boot) (items : List Item) : Type 0 where
+  pub few : length starts ≤ 8
+  pub few_items : length items < 2 ^ 32
+  pub places : All (ItemFits starts) items
+
+-- a worker's token is one of the run, without notes
+pub record IsReady (starts : List Boot) (board : TableId) (worker : Worker) : Type 0 where
+  pub fits : Fits starts board worker.token
+  pub no_notes : worker.token.notes ≡ []
+
+-- what a worker's token was told of is the worker's slices
+pub record Works (items : List Item) (old new : Worker) : Type 0 where
+  pub same : IsSameToken old.token new.token
+  pub told : (slices : Vec SliceRecord Global) → new.slices ≡ Some slices → AreTold (own new.token.number (planned 0 items)) slices.items new.token.notes

@@ -1,0 +1,12 @@
+//! The plan, carried out by workers.
+#![tactic(auto)]
+
+mod booting;
+mod carrying;
+mod ending;
+mod ordering;
+mod running;
+mod serving;
+mod workers;
+
+pub use running::run;

@@ -1,0 +1,113 @@
+//! One run item, carried out.
+ghost use Rattle.std.specs.Prelude.{◌≡◌, ◌≢◌, ◌≤◌, None, IfOk};
+ghost use Rattle.guest_lock.specs.declared.burst.Stop.TheVariants.{Paused};
+ghost use Rattle.guest_lock.specs.Fits.{Fits, HasVcpu};
+ghost use Rattle.guest_lock.specs.Told.{shown, vcpu_shown, Bursts};
+ghost use Rattle.run_workers.specs.Slices.{Serves, IsCause};
+ghost use Rattle.run_workers.specs.Working.{IsSameToken};
+ghost use Rattle.run_workers.specs.Jobs.{planned_job};
+
+use base_words::{GuestId, VcpuId};
+use guest_core::{Cut, Loaded, SliceRecord};
+use guest_lock::{Burst, GuestCell, Starts, Stop, bursts_join, tokens_grow};
+use outside_io::{Gate, GatePoint};
+use shootdown::ProcToken;
+use std::alloc::{AllocError, Global};
+use std::sync::Wait;
+
+/// A run item of the plan, with its place there.
+#[derive(Clone, Copy, Debug)]
+pub(crate) struct Job {
+    pub(crate) item: u32,
+    pub(crate) guest: GuestId,
+    pub(crate) vcpu: VcpuId,
+    pub(crate) steps: u64,
+}
+
+/// Makes turns of what is loaded on the token's processor until there were so many steps, or one was neither a step nor a refill.
+fn make_turns<N: Starts, const G: u8, R: Wait, T: Gate>(
+    rt: &R,
+    alloc: Global,
+    cell: &GuestCell<N, G>,
+    token: &mut ProcToken,
+    gate: &T,
+    job: Job,
+) -> Burst
+    requires token { Fits N.starts N.board token.old }
+    requires loaded { shown G token.old ≢ None }
+    ensures told { Bursts token.old G result token.new }
+    ensures few { result.steps ≤ job.steps }
+    ensures all { result.stop ≡ Paused → result.steps ≡ job.steps }
+{
+    bursts_join();
+    let mut made = Burst::new();
+    for _ in rt.forever() {
+        if made.steps == job.steps || made.stop != Stop::Paused {
+            return made;
+        }
+        let at = GatePoint {
+            processor: token.number(),
+            guest: GuestId(G),
+            vcpu: job.vcpu,
+            turn: made.turns,
+        };
+        let burst = cell.burst(rt, alloc, token, gate, at, job.steps - made.steps);
+        made = made.then(burst);
+    }
+    unreachable!()
+}
+
+/// Why a slice with so many steps came to its end. Want of memory is none of the causes.
+fn cut_of(burst: Burst, planned: u64) -> Result<Cut, AllocError>
+    requires all { burst.stop ≡ Paused → burst.steps ≡ planned }
+    requires few { burst.steps ≤ planned }
+    ensures { IfOk result (IsCause planned burst.steps burst.stop) }
+{
+    if burst.steps == planned {
+        return Ok(Cut::Whole);
+    }
+    match burst.stop {
+        Stop::Paused => unreachable!(),
+        Stop::VcpuHalted => Ok(Cut::VcpuHalted),
+        Stop::GuestEnded(end) => Ok(Cut::GuestEnded(end)),
+        Stop::Memory => Err(AllocError),
+    }
+}
+
+/// Carries out a run item of the guest under this lock: loads its virtual processor, makes turns of it, and unloads it.
+pub(crate) fn serve<N: Starts, const G: u8, R: Wait, T: Gate>(
+    rt: &R,
+    alloc: Global,
+    cell: &GuestCell<N, G>,
+    token: &mut ProcToken,
+    gate: &T,
+    job: Job,
+) -> Result<SliceRecord, AllocError>
+    requires token { Fits N.starts N.board token.old }
+    requires guest { job.guest.0 ≡ G }
+    requires vcpu { HasVcpu N.starts G job.vcpu.0 }
+    requires free { shown G token.old ≡ None }
+    ensures served { IfOk result (λ slice. Serves (planned_job token.old.number job) token.old slice token.new) }
+    ensures same { IsSameToken token.old token.new }
+{
+    tokens_grow();
+    bursts_join();
+    let burst = match cell.load(rt, token, job.vcpu)? {
+        Loaded::Done => {
+            let burst = make_turns(rt, alloc, cell, token, gate, job);
+            cell.unload(rt, token);
+            burst
+        }
+        Loaded::On(_) => unreachable!(),
+        Loaded::Ended(end) => Burst {
+            turns: 0,
+            steps: 0,
+            stop: Stop::GuestEnded(end),
+        },
+    };
+    Ok(SliceRecord {
+        item: job.item,
+        steps: burst.steps,
+        cause: cut_of(burst, job.steps)?,
+    })
+}
