@@ -8,6 +8,7 @@ pub mod NeverReads
 pub mod GuestLemmas
 pub mod DiskLemmas
 pub mod RawLemmas
+pub mod BlockLemmas
 pub mod StartLemmas
 pub mod ReadyLemmas
 pub mod NoMemory

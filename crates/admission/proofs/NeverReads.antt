@@ -8,12 +8,13 @@ use Rattle.machine_desc.specs.Described.{Described}
 use Rattle.admission.specs.declared.faults.Fault.{Fault}
 use Rattle.admission.specs.declared.faults.Fault.TheVariants.{Admission}
 use Rattle.admission.specs.declared.faults.UnbuiltKey.{UnbuiltKey}
-use Rattle.admission.specs.declared.faults.UnbuiltKey.TheVariants as key
 use Rattle.admission.specs.Words.{Form}
+use Rattle.boot_frames.specs.declared.answers.Shortage.{Shortage}
+use Rattle.boot_frames.specs.declared.answers.Shortage.TheVariants.{Memory, Guest}
 use Rattle.admission.specs.Chain.{◌>>=◌, known_form, of_description}
 use Rattle.admission.specs.Starts.{Start, raw_image, of_guest}
 use Rattle.admission.specs.Unbuilt.{unbuilt, refused_key}
-use Rattle.admission.specs.Jobs.{fits_from, checks, checked, raw_checked}
+use Rattle.admission.specs.Jobs.{short_in, served, checks, checked, raw_checked}
 use Rattle.admission.specs.Steady.{NeverReads}
 
 then-never : {A B : Type 0} (r : Result A Fault) (next : A → Result B Fault) → NeverReads r → ((x : A) → NeverReads (next x)) → NeverReads (r >>= next)
@@ -35,26 +36,17 @@ pub of_description-never : {A : Type 0} (r : Result A DescFault) → NeverReads 
 of_description-never (Ok x) = tt
 of_description-never (Err fault) = tt
 
-refused_key-never : (alone : Bool) (k : Option UnbuiltKey) → NeverReads (refused_key alone k)
-refused_key-never alone None = tt
-refused_key-never true (Some (key.Disk guest)) = tt
-refused_key-never false (Some (key.Disk guest)) = tt
-refused_key-never alone (Some key.Nodes) = tt
-refused_key-never alone (Some key.Cache) = tt
-refused_key-never alone (Some key.Migrate) = tt
-refused_key-never alone (Some key.Replicate) = tt
-refused_key-never alone (Some (key.Act item)) = tt
+refused_key-never : (k : Option UnbuiltKey) → NeverReads (refused_key k)
+refused_key-never None = tt
+refused_key-never (Some key) = tt
 
-fits_from-never : (has guest : ℕ) (specs : List GuestSpec) → NeverReads (fits_from has guest specs)
-fits_from-never has guest [] = tt
-fits_from-never has guest (spec ∷ specs) =
-    elim (nat_le spec.pages has) as (λ b. NeverReads (let r : Result (Unit {0}) Fault = if b then fits_from (has - spec.pages) (suc guest) specs else Err (Admission (record { 0 = guest }) spec.pages has) in r)) [
-      | true ↦ fits_from-never (has - spec.pages) (suc guest) specs
-      | false ↦ tt
-    ]
+served-never : (short : Option Shortage) → NeverReads (served short)
+served-never None = tt
+served-never (Some Memory) = tt
+served-never (Some (Guest guest needs has)) = tt
 
 pub checked-never : (alone : Bool) (d : Described) (starts : List Start) → NeverReads (checked alone d starts)
 checked-never alone d starts =
-    then-never (checks alone d) _
-    (then-never (refused_key alone (unbuilt d)) _ (refused_key-never alone (unbuilt d)) (λ _. fits_from-never d.frames 0 d.guests))
+    then-never (checks d) _
+    (then-never (refused_key (unbuilt d)) _ (refused_key-never (unbuilt d)) (λ _. served-never (short_in d)))
     (λ _. tt)

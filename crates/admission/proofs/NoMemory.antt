@@ -17,12 +17,13 @@ use Rattle.machine_desc.proofs.NameFaults.{description_of-told}
 use Rattle.admission.specs.declared.faults.Fault.{Fault}
 use Rattle.admission.specs.declared.faults.Fault.TheVariants.{Words, Read, Long, Description, BadImage, Unbuilt, Admission}
 use Rattle.admission.specs.declared.faults.UnbuiltKey.{UnbuiltKey}
-use Rattle.admission.specs.declared.faults.UnbuiltKey.TheVariants as key
 use Rattle.admission.specs.Words.{Form, Raw, Machine, Private, form_of}
+use Rattle.boot_frames.specs.declared.answers.Shortage.{Shortage}
+use Rattle.boot_frames.specs.declared.answers.Shortage.TheVariants.{Memory, Guest}
 use Rattle.admission.specs.Chain.{Files, ◌>>=◌, known_form, fitting, content, of_description, longest_description, longest_image, longest_disk}
 use Rattle.admission.specs.Starts.{Start, unless, raw_image, elf_image, guest_image, of_guest, image_at, disk_at, start_at, starts_from}
 use Rattle.admission.specs.Unbuilt.{unbuilt, refused_key}
-use Rattle.admission.specs.Jobs.{fits_from, checks, checked, described_job, raw_job, job_by, job_of}
+use Rattle.admission.specs.Jobs.{short_in, served, checks, checked, described_job, raw_job, job_by, job_of}
 use Rattle.admission.specs.Tells.{Tells}
 
 -- ---- images
@@ -178,28 +179,19 @@ starts_from-tells files guest (spec ∷ specs) =
     then-tells (start_at files guest spec) _ (start_at-tells files guest spec) λ start.
     then-tells (starts_from files (suc guest) specs) _ (starts_from-tells files (suc guest) specs) (λ starts. tt)
 
-refused_key-tells : (alone : Bool) (k : Option UnbuiltKey) → AlwaysTells (refused_key alone k)
-refused_key-tells alone None = tt
-refused_key-tells true (Some (key.Disk guest)) = tt
-refused_key-tells false (Some (key.Disk guest)) = tt
-refused_key-tells alone (Some key.Nodes) = tt
-refused_key-tells alone (Some key.Cache) = tt
-refused_key-tells alone (Some key.Migrate) = tt
-refused_key-tells alone (Some key.Replicate) = tt
-refused_key-tells alone (Some (key.Act item)) = tt
+refused_key-tells : (k : Option UnbuiltKey) → AlwaysTells (refused_key k)
+refused_key-tells None = tt
+refused_key-tells (Some key) = tt
 
-fits_from-tells : (has guest : ℕ) (specs : List GuestSpec) → AlwaysTells (fits_from has guest specs)
-fits_from-tells has guest [] = tt
-fits_from-tells has guest (spec ∷ specs) =
-    elim (nat_le spec.pages has) as (λ b. AlwaysTells (let r : Result (Unit {0}) Fault = if b then fits_from (has - spec.pages) (suc guest) specs else Err (Admission (record { 0 = guest }) spec.pages has) in r)) [
-      | true ↦ fits_from-tells (has - spec.pages) (suc guest) specs
-      | false ↦ tt
-    ]
+served-tells : (short : Option Shortage) → AlwaysTells (served short)
+served-tells None = tt
+served-tells (Some Memory) = tt
+served-tells (Some (Guest guest needs has)) = tt
 
 checked-tells : (alone : Bool) (d : Described) (starts : List Start) → AlwaysTells (checked alone d starts)
 checked-tells alone d starts =
-    then-tells (checks alone d) _
-    (then-tells (refused_key alone (unbuilt d)) _ (refused_key-tells alone (unbuilt d)) (λ _. fits_from-tells d.frames 0 d.guests))
+    then-tells (checks d) _
+    (then-tells (refused_key (unbuilt d)) _ (refused_key-tells (unbuilt d)) (λ _. served-tells (short_in d)))
     (λ _. tt)
 
 of_description-tells : (r : Result Described DescFault) → ((fault : DescFault) → r ≡ Err fault → Tells (Description fault)) → AlwaysTells (of_description r)

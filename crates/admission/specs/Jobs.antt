@@ -1,6 +1,12 @@
 -- What is to be done, and why it is refused: all stages in order.
-use Rattle.std.specs.Prelude.{ℕ, suc, ◌-◌, nat_le, List, [], ◌∷◌, Bool, true, false, if◌then◌else◌, codes, None, Result, Ok, Err}
+use Rattle.std.specs.Prelude.{ℕ, List, [], ◌∷◌, map, Bool, true, false, codes, Option, Some, None, Result, Ok, Err}
 use Rattle.private_machine.specs.PrivateRun.{Image}
+use Rattle.node_frames.specs.Layout.{Layout}
+use Rattle.node_frames.specs.Left.{first_left}
+use Rattle.boot_frames.specs.Chain.{first_short}
+use Rattle.boot_frames.specs.Needs.{need_of}
+use Rattle.boot_frames.specs.declared.answers.Shortage.{Shortage}
+use Rattle.boot_frames.specs.declared.answers.Shortage.TheVariants.{Memory, Guest}
 use Rattle.machine_desc.specs.declared.machine.GuestSpec.{GuestSpec}
 use Rattle.machine_desc.specs.declared.plan.Item.{Item}
 use Rattle.machine_desc.specs.declared.plan.Item.TheVariants.{Run}
@@ -19,22 +25,30 @@ pub data Job : Type 0 where
   -- the same, each guest alone on its private machine
   Alone : Described → List Start → Job
 
--- whether the guests fit into so many frames, each in what those before it left
-abbrev pub fits_from : ℕ → ℕ → List GuestSpec → Result (Unit {0}) Fault
-fits_from has guest [] = Ok tt
-fits_from has guest (spec ∷ specs) =
-    if nat_le spec.pages has then fits_from (has - spec.pages) (suc guest) specs else Err (Admission (record { 0 = guest }) spec.pages has)
+-- how the machine's frames lie
+abbrev pub layout_in : Described → Layout
+layout_in d = record { nodes = d.nodes; frames = d.frames; cells = d.cells }
 
--- first all that is asked for has to be built, then the guests have to fit
-abbrev pub checks : Bool → Described → Result (Unit {0}) Fault
-checks alone d = refused_key alone (unbuilt d) >>= λ _. fits_from d.frames 0 d.guests
+-- the first guest that doesn't get its frames, each of what those before it left
+abbrev pub short_in : Described → Option Shortage
+short_in d = first_short (layout_in d) 0 (map need_of d.guests) (first_left (layout_in d) d.lends)
+
+-- such a guest is refused; memory is never short here
+abbrev pub served : Option Shortage → Result (Unit {0}) Fault
+served None = Ok tt
+served (Some Memory) = Ok tt
+served (Some (Guest guest needs has)) = Err (Admission guest needs has)
+
+-- first all that is asked for has to be built, then the guests have to get their frames
+abbrev pub checks : Described → Result (Unit {0}) Fault
+checks d = refused_key (unbuilt d) >>= λ _. served (short_in d)
 
 abbrev pub job_from : Bool → Described → List Start → Job
 job_from true d starts = Alone d starts
 job_from false d starts = Monitored d starts true
 
 abbrev pub checked : Bool → Described → List Start → Result Job Fault
-checked alone d starts = checks alone d >>= λ _. Ok (job_from alone d starts)
+checked alone d starts = checks d >>= λ _. Ok (job_from alone d starts)
 
 -- the guests' files, and then the checks
 abbrev pub guests_of : Bool → Files → Described → Result Job Fault

@@ -1,9 +1,8 @@
 -- What holds of each job that is admitted, and what a call that reads files says of it.
-use Rattle.std.specs.Prelude.{◌≡◌, ℕ, ◌≤◌, List, length, sum_by, None, Some, Result, Ok, Err, ◌⊎◌}
+use Rattle.std.specs.Prelude.{◌≡◌, ◌≤◌, List, ℕ, length, None, Some, Result, Ok, Err, ◌⊎◌}
 use Rattle.outside_io.specs.Reading.{ShelfView, MayBe, Absent, IsCalm}
 use Rattle.machine_desc.specs.Accepted.{IsDescribed}
 use Rattle.machine_desc.specs.Described.{described_seen}
-use Rattle.machine_desc.specs.declared.machine.GuestSpec.{GuestSpec}
 use Rattle.admission.specs.declared.faults.Fault.{Fault}
 use Rattle.admission.specs.declared.faults.Refusal.{Refusal}
 use Rattle.admission.specs.declared.faults.Refusal.TheVariants.{Fault as Faulty, Memory as NoMemory}
@@ -11,19 +10,20 @@ use Rattle.admission.specs.declared.setup.Setup.{Setup}
 use Rattle.admission.specs.declared.setup.Job.{Job}
 use Rattle.admission.specs.declared.setup.Job.TheVariants.{Monitored, Alone}
 use Rattle.admission.specs.Chain.{Files}
+use Rattle.admission.specs.Jobs.{short_in}
 use Rattle.admission.specs.Stages.{FailedAt, IsCaused, Gives}
 use Rattle.admission.specs.Started.{AreStarted}
 use Rattle.admission.specs.Unbuilt.{unbuilt}
 use Rattle.admission.specs.Views.{starts_of}
 
--- the description is within its bounds; each guest has an image and the number of its disk, and starts from these; and the guests' pages
--- are no more than the frames
+-- the description is within its bounds; each guest has an image and the number of its disk, and starts from these; and each gets its
+-- frames
 pub record IsSetup (setup : Setup) : Type 0 where
   pub described : IsDescribed setup.machine setup.plan
   pub images : length setup.images ≡ length setup.machine.guests
   pub numbers : length setup.numbers ≡ length setup.machine.guests
   pub started : AreStarted setup.machine.guests (starts_of setup)
-  pub fits : sum_by (λ (spec : GuestSpec). spec.pages) setup.machine.guests ≤ setup.machine.shape.frames
+  pub served : short_in (described_seen setup.machine setup.plan) ≡ None
 
 -- under the monitor all that is asked for is built
 abbrev pub IsReady : Job → Type 0

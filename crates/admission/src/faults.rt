@@ -8,15 +8,11 @@ use machine_desc::DescFault;
 use std::alloc::{AllocError, AllocFailed};
 use thiserror::Error;
 
-/// What a description may ask for, and isn't built yet. The numbers are those of a guest and of a piece of work.
+/// What a description may ask for, and isn't built yet. The number is that of a piece of work.
 #[derive(Clone, Copy, Debug, PartialEq, Eq)]
 pub enum UnbuiltKey {
-    /// More nodes than one.
-    Nodes,
     /// An index of shared blocks.
     Cache,
-    /// A guest's disk.
-    Disk(usize),
     /// Migration by the policy.
     Migrate,
     /// Replication by the policy.

@@ -79,9 +79,7 @@ fn checked(
     ensures ready { IfOk result IsReady }
     ensures gives { Gives (seen job_seen result) (checked_by alone (described_seen machine plan) (starts_seen files.now starts)) }
 {
-    if let Err(fault) = check(alone, &machine, &plan) {
-        return Err(Refusal::Fault(fault));
-    }
+    check(alloc, &machine, &plan)?;
     let setup = setup_of(alloc, files, machine, plan, starts)?;
     Ok(job_in(alone, setup))
 }

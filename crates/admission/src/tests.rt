@@ -348,8 +348,15 @@ fn stages_in_order(rt: HostRuntime) -> Result<(), Fail> {
             ..plain()
         },
         refused(
-            &[("nodes = 1", "nodes = 2"), ("pages = 16", "pages = 17")],
-            Came::Unbuilt(UnbuiltKey::Nodes),
+            &[
+                ("nodes = 1", "nodes = 2\ncache = 1"),
+                ("pages = 16", "pages = 33"),
+            ],
+            Came::Unbuilt(UnbuiltKey::Cache),
+        ),
+        refused(
+            &[("nodes = 1", "nodes = 2"), ("pages = 16", "pages = 33")],
+            Came::Admission(0, 33, 32),
         ),
         refused(&[("pages = 16", "pages = 17")], Came::Admission(0, 17, 16)),
     ];
@@ -368,6 +375,12 @@ const IMAGE_AS_DISK: Change<'static> = ("vcpus = 1", "vcpus = 1\ndisk = \"a.raw\
 
 const MIGRATE: Change<'static> = ("[[work]]", "[policy]\nmigrate = 1\nreplicate = 1\n[[work]]");
 
+/// Work that is no run, behind the run.
+const FAILS: Change<'static> = (
+    "steps = 5",
+    "steps = 5\n[[work]]\nact = \"fail\"\nprocessor = 0\ncell = 0",
+);
+
 const INPUT: Change<'static> = (
     "steps = 5",
     "steps = 5\n[[input]]\nguest = 0\nat = 0\ntext = \"x\"",
@@ -379,6 +392,14 @@ const GUESTS: Change<'static> = (
     "[[guest]]\nimage = \"a.raw\"\nform = \"raw\"\npages = 1\nvcpus = 2\nnode = 0\n[[guest]]",
 );
 
+/// Two nodes of 4 frames, each a cell; the second one lends two frames.
+const CELLS: Change<'static> = (
+    "nodes = 1\nframes = 16\nprocessors = [0]",
+    "nodes = 2\nframes = 4\nprocessors = [0]\n[[cell]]\nnodes = [0]\n[[cell]]\nnodes = [1]\nlend = 2",
+);
+
+const SIX_PAGES: Change<'static> = ("pages = 16", "pages = 6");
+
 const FRAMES: Change<'static> = ("frames = 16", "frames = 17");
 
 const PROCESSORS: Change<'static> = ("processors = [0]", "processors = [0, 0]");
@@ -388,34 +409,33 @@ const PROCESSORS: Change<'static> = ("processors = [0]", "processors = [0, 0]");
 fn keys_in_order(rt: HostRuntime) -> Result<(), Fail> {
     let rows = [
         refused(
-            &[PROCESSORS, ("nodes = 1", "nodes = 2\ncache = 1")],
-            Came::Unbuilt(UnbuiltKey::Nodes),
-        ),
-        refused(
-            &[("processors = [0]", "processors = [0]\ncache = 1"), DISK],
+            &[
+                PROCESSORS,
+                ("nodes = 1", "nodes = 2\ncache = 1"),
+                DISK,
+                MIGRATE,
+            ],
             Came::Unbuilt(UnbuiltKey::Cache),
         ),
-        refused(&[DISK, MIGRATE], Came::Unbuilt(UnbuiltKey::Disk(0))),
-        refused(&[MIGRATE], Came::Unbuilt(UnbuiltKey::Migrate)),
+        refused(&[DISK, MIGRATE, FAILS], Came::Unbuilt(UnbuiltKey::Migrate)),
         refused(
             &[("[[work]]", "[policy]\nreplicate = 1\n[[work]]")],
             Came::Unbuilt(UnbuiltKey::Replicate),
         ),
-        refused(
-            &[(
-                "steps = 5",
-                "steps = 5\n[[work]]\nact = \"fail\"\nprocessor = 0\ncell = 0",
-            )],
-            Came::Unbuilt(UnbuiltKey::Act(1)),
-        ),
+        refused(&[FAILS], Came::Unbuilt(UnbuiltKey::Act(1))),
     ];
     for case in &rows {
         try_case(&rt, rt.alloc(), case)?;
+        let alone = Case {
+            option: "--private",
+            ..*case
+        };
+        try_case(&rt, rt.alloc(), &alone)?;
     }
     Ok(())
 }
 
-/// What is built on one node: several processors, guests and virtual processors, and input.
+/// What is built: several nodes and cells with loans, processors, guests and virtual processors, input and disks.
 #[test]
 fn what_is_built(rt: HostRuntime) -> Result<(), Fail> {
     let rows = [
@@ -423,7 +443,29 @@ fn what_is_built(rt: HostRuntime) -> Result<(), Fail> {
         refused(&[("vcpus = 1", "vcpus = 4")], Came::Monitored(1, true)),
         refused(&[GUESTS, FRAMES], Came::Monitored(2, true)),
         refused(&[GUESTS], Came::Admission(1, 16, 15)),
+        refused(
+            &[("nodes = 1", "nodes = 2"), ("pages = 16", "pages = 32")],
+            Came::Monitored(1, true),
+        ),
+        refused(&[CELLS, SIX_PAGES], Came::Monitored(1, true)),
+        refused(
+            &[CELLS, SIX_PAGES, ("pages = 6", "pages = 7")],
+            Came::Admission(0, 7, 6),
+        ),
+        refused(
+            &[
+                CELLS,
+                SIX_PAGES,
+                ("node = 0\n[[work]]", "node = 1\n[[work]]"),
+            ],
+            Came::Admission(0, 6, 4),
+        ),
         refused(&[INPUT], Came::Monitored(1, true)),
+        refused(&[DISK], Came::Monitored(1, true)),
+        Case {
+            disk: 4_194_305,
+            ..refused(&[DISK], Came::Long)
+        },
     ];
     for case in &rows {
         try_case(&rt, rt.alloc(), case)?;
@@ -431,7 +473,7 @@ fn what_is_built(rt: HostRuntime) -> Result<(), Fail> {
     Ok(())
 }
 
-/// Guests alone: their disks are built, and what comes after a disk is passed over.
+/// Guests alone, and their disks at their limits.
 #[test]
 fn guests_alone(rt: HostRuntime) -> Result<(), Fail> {
     let rows = [
@@ -440,7 +482,7 @@ fn guests_alone(rt: HostRuntime) -> Result<(), Fail> {
             ..plain()
         },
         Case {
-            changes: &[DISK, MIGRATE],
+            changes: &[DISK],
             disk: 4097,
             came: Came::Alone(1, 1, 2),
             ..plain()
@@ -461,11 +503,6 @@ fn guests_alone(rt: HostRuntime) -> Result<(), Fail> {
             changes: &[DISK],
             disk: 4_194_305,
             came: Came::Long,
-            ..plain()
-        },
-        Case {
-            changes: &[MIGRATE],
-            came: Came::Unbuilt(UnbuiltKey::Migrate),
             ..plain()
         },
         Case {

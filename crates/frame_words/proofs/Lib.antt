@@ -4,6 +4,7 @@ pub mod Turns
 pub mod Moves
 pub mod Parts
 pub mod NamedLemmas
+pub mod HandedLemmas
 pub mod Opened
 pub mod TailLemmas
 pub mod Told

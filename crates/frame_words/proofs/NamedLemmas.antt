@@ -77,4 +77,5 @@ keeps_unnamed v w fs ns few k = record {
   holds = λ frame. let a = k.often (frame_word frame) in let b = times-named_frame frame fs ns few in omega arith;
   lent = λ cell low. let a = k.often (cell_word cell) in let b = times-named_cell cell fs ns low in omega arith;
   stays = λ frame under less own. let b = times-named_frame frame fs ns few in k.stays (frame_word frame) under (omega arith) own;
+  plain = λ cell low less own. let b = times-named_cell cell fs ns low in k.stays (cell_word cell) 0 (omega arith) own;
 }

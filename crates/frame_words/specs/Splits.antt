@@ -30,9 +30,31 @@ pub record HasHolds (view : View) (holds : List Hold) : Type 0 where
   pub often : (word : ℕ) → times word holds ≤ held word view
   pub under : All (Contains view.holds) holds
 
+-- among these holds is one of the frame, under its generation, and one of a loan of the cell
+abbrev pub HasFrame : List Hold → Frame → Type 0
+HasFrame holds frame = Contains holds (hold (frame_word frame.number.0) frame.generation)
+
+abbrev pub HasLoan : List Hold → ℕ → Type 0
+HasLoan holds cell = Contains holds (hold (cell_word cell) 0)
+
+-- the view has these frames and these loans, and may have more, by frames and by cells
+pub record HasNamed (view : View) (frames : List Frame) (loans : List ℕ) : Type 0 where
+  pub holds : (frame : ℕ) → frame_times frame frames ≤ frame_holds view frame
+  pub lent : (cell : ℕ) → cell < 8 → slice_index loans cell ≤ cell_loans view cell
+  pub under : All (HasFrame view.holds) frames
+  pub plain : (cell : ℕ) → cell < 8 → 0 < slice_index loans cell → HasLoan view.holds cell
+
+-- the view has exactly these frames and these loans
+pub record HasOnlyNamed (view : View) (frames : List Frame) (loans : List ℕ) : Type 0 where
+  pub holds : (frame : ℕ) → frame_holds view frame ≡ frame_times frame frames
+  pub lent : (cell : ℕ) → cell < 8 → cell_loans view cell ≡ slice_index loans cell
+  pub under : All (HasFrame view.holds) frames
+  pub plain : (cell : ℕ) → cell < 8 → 0 < slice_index loans cell → HasLoan view.holds cell
+
 -- what these frames and loans leave with the first holder, by frames and cells
 pub record KeepsUnnamed (old : View) (frames : List Frame) (loans : List ℕ) (new : View) : Type 0 where
   pub holds : (frame : ℕ) → frame_holds new frame + frame_times frame frames ≡ frame_holds old frame
   pub lent : (cell : ℕ) → cell < 8 → cell_loans new cell + slice_index loans cell ≡ cell_loans old cell
   pub stays : (frame under : ℕ) → frame_times frame frames < frame_holds old frame
       → Contains old.holds (hold (frame_word frame) under) → Contains new.holds (hold (frame_word frame) under)
+  pub plain : (cell : ℕ) → cell < 8 → slice_index loans cell < cell_loans old cell → HasLoan old.holds cell → HasLoan new.holds cell

@@ -7,6 +7,7 @@ use Rattle.std.specs.Global.{Box}
 use Rattle.base_words.specs.declared.frame.Frame.{Frame}
 use Rattle.base_words.specs.declared.input.InputEntry.{InputEntry}
 use Rattle.base_words.specs.declared.page.Page.{Page}
+use Rattle.private_machine.specs.Disk.{Block}
 use Rattle.private_machine.specs.Vcpu.{started as beginning}
 use Rattle.shootdown.specs.declared.view.SidedNote.{SidedNote}
 use Rattle.elf_image.specs.Physical.{memory_of}
@@ -15,7 +16,7 @@ use Rattle.isolation_law.specs.GuestState.{idle}
 use Rattle.isolation_law.specs.Parts.{Processor}
 use Rattle.isolation_law.specs.Run.{Run}
 use Rattle.isolation_law.specs.Start.{Boot, start as started}
-use Rattle.guest_course.specs.BootCalls.{AreWhole, MayBoot, boot_of, found_of}
+use Rattle.guest_course.specs.BootCalls.{AreWhole, MayBoot, given_blocks, boot_of, found_of}
 use Rattle.guest_course.specs.CourseView.{surroundings}
 use Rattle.guest_course.specs.declared.site.Around.{Around}
 use Rattle.guest_core.specs.GuestView.{is_loaded, loaded_count}
@@ -61,20 +62,20 @@ pub frame-there : (fs : List Frame) (pages yielded items rest : List (Box Page))
 frame-there fs pages yielded items rest p e all next = omega (arith, e, ap length all, length-append yielded items, ap length next)
 
 -- a guest of these frames is booted with this image
-pub same-boot : (around : Around) (image : Image) (vcpus : ℕ) (fs : List Frame) (input : List InputEntry) → length fs ≡ length image.pages → boot_of around image.entry vcpus (filled fs image.pages) input ≡ booted_with around image vcpus fs input
-same-boot around image vcpus fs input e =
+pub same-boot : (around : Around) (image : Image) (vcpus : ℕ) (fs : List Frame) (disk : List Block) (input : List InputEntry) → length fs ≡ length image.pages → boot_of around image.entry vcpus (filled fs image.pages) (given_blocks disk) input ≡ booted_with around image vcpus fs disk input
+same-boot around image vcpus fs disk input e =
     let pages = length-filled fs image.pages (omega (arith, e)) in
     λ i. record {
       around = surroundings around;
       image = record { entry = image.entry; pages = pages i; memory = bytes-filled fs image.pages e i };
       vcpus = vcpus;
-      disk = [];
+      disk = given_blocks disk;
       input = input;
       frames = found-filled fs image.pages e i;
     }
 
-pub may-boot : (around : Around) (image : Image) (vcpus : ℕ) (fs : List Frame) → MayStart around image vcpus fs → AreWhole (filled fs image.pages) → MayBoot around vcpus (filled fs image.pages)
-may-boot around image vcpus fs may whole = record {
+pub may-boot : (around : Around) (image : Image) (vcpus : ℕ) (fs : List Frame) (disk : List Block) → MayStart around image vcpus fs disk → AreWhole (filled fs image.pages) → MayBoot around vcpus (filled fs image.pages) disk
+may-boot around image vcpus fs disk may whole = record {
   some_vcpus = may.some_vcpus;
   few_vcpus = may.few_vcpus;
   few_pages = subst (λ (n : ℕ). n ≤ 2048) (sym (length-filled fs image.pages (let e = may.backed in omega arith))) may.few_pages;
@@ -82,6 +83,8 @@ may-boot around image vcpus fs may whole = record {
   few_frames = may.few_frames;
   on_nodes = may.on_nodes;
   whole = whole;
+  unwritten = may.unwritten;
+  blocks = may.blocks;
 }
 
 -- ---- a guest at its start

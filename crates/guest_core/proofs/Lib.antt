@@ -2,6 +2,9 @@ pub mod Crossing
 pub mod NoteLemmas
 pub mod CountLemmas
 pub mod BootLemmas
+pub mod HoldingLemmas
+pub mod ShapeLemmas
+pub mod ReleaseLemmas
 pub mod KeptProofs
 pub mod RoomLemmas
 pub mod EnterProofs

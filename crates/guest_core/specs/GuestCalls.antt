@@ -26,10 +26,11 @@ pub record Makes (old : Monitored) (entries : List Event) (new : Monitored) : Ty
   pub journal : new.journal ≡ old.journal ++ entries
   pub run : Run old.state entries new.state
 
--- no entry was made
+-- no entry was made, and nothing was taken or given back
 pub record Stays (old new : Monitored) : Type 0 where
   pub journal : new.journal ≡ old.journal
   pub state : new.state ≡ old.state
+  pub view : new.view ≡ old.view
 
 -- the seat's notes and the token's grew by these
 pub record Learns (old : Monitored) (token : Token) (told : List Note) (new : Monitored) (token_after : Token) : Type 0 where

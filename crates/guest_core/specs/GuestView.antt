@@ -3,6 +3,8 @@ use Rattle.std.specs.Prelude.{◌≡◌, ℕ, ◌-◌, ◌*◌, min, List, [], B
 use Rattle.std.specs.Vec.{vec_len, vec_capacity}
 use Rattle.atomic_table.specs.Seated.{TableId}
 use Rattle.base_words.specs.declared.events.Event.{Event}
+use Rattle.frame_words.specs.Holders.{MadeTable}
+use Rattle.frame_words.specs.declared.view.View.{View}
 use Rattle.shootdown.specs.declared.view.SidedNote.{SidedNote}
 use Rattle.isolation_law.specs.GuestState.{GuestState}
 use Rattle.isolation_law.specs.Parts.{Processor}
@@ -10,16 +12,19 @@ use Rattle.isolation_law.specs.Start.{Boot, start as started}
 use Rattle.guest_course.specs.declared.course.Course.{Course}
 use Rattle.guest_course.specs.CourseView.{state_of}
 use Rattle.guest_core.specs.declared.parts.Parts.{Parts}
+use Rattle.guest_core.specs.Holding.{FitsAround}
 
--- a guest: its number, what it was started from, the board that made its seat; its state, the journal that led to it, its seat's notes;
--- and the room that was made for its calls
+-- a guest: its number, what it was started from, the board that made its seat, the table that made its holder; its state, the journal
+-- that led to it, its seat's notes, its holder's view; and the room that was made for its calls
 pub record Monitored : Type 0 where
   pub number : ℕ
   pub start : Boot
   pub board : TableId
+  pub table : TableId
   pub state : GuestState
   pub journal : List Event
   pub notes : List SidedNote
+  pub view : View
   pub room : ℕ
 
 abbrev pub is_loaded : Processor → Bool
@@ -42,23 +47,32 @@ guest_of g = record {
   number = g.number.0;
   start = g.start;
   board = g.seat.board;
+  table = g.holder.table;
   state = state_of g.course;
   journal = g.journal.entries;
   notes = g.seat.notes;
+  view = g.holder.view;
   room = room_of g.journal.room g.course;
 }
 
--- number, start and board stay
+-- number, start, board and table stay
 pub record IsSameGuest (old new : Monitored) : Type 0 where
   pub number : new.number ≡ old.number
   pub start : new.start ≡ old.start
   pub board : new.board ≡ old.board
+  pub table : new.table ≡ old.table
+
+-- the table made the guest's holder, and is of the machine around it
+pub record IsTableOf (table : MadeTable) (g : Monitored) : Type 0 where
+  pub made : g.table ≡ table.id
+  pub fits : FitsAround table g.start.around
 
 -- a guest at its start, without notes
-pub record IsAtStart (number : ℕ) (b : Boot) (board : TableId) (g : Monitored) : Type 0 where
+pub record IsAtStart (number : ℕ) (b : Boot) (board table : TableId) (g : Monitored) : Type 0 where
   pub number_is : g.number ≡ number
   pub start_is : g.start ≡ b
   pub board_is : g.board ≡ board
+  pub table_is : g.table ≡ table
   pub state_is : g.state ≡ started b
   pub no_entries : g.journal ≡ []
   pub no_notes : g.notes ≡ []

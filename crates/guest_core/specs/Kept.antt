@@ -1,5 +1,5 @@
 -- What the type of a guest keeps.
-use Rattle.std.specs.Prelude.{◌≡◌, ℕ, ◌≤◌, List, length, None}
+use Rattle.std.specs.Prelude.{◌≡◌, ℕ, ◌<◌, ◌≤◌, List, length, None}
 use Rattle.base_words.specs.declared.events.Event.{Event}
 use Rattle.shootdown.specs.declared.view.SidedNote.{SidedNote}
 use Rattle.isolation_law.specs.GuestState.{GuestState, due_on}
@@ -10,6 +10,7 @@ use Rattle.guest_course.specs.CourseView.{state_of}
 use Rattle.guest_course.specs.CourseRules.{IsSound}
 use Rattle.guest_core.specs.declared.parts.Parts.{Parts}
 use Rattle.guest_core.specs.GuestView.{loaded_count}
+use Rattle.guest_core.specs.Holding.{HasFrames}
 use Rattle.guest_core.specs.Noting.{IsNoted}
 
 -- The journal is a run from the guest's start to its state, and the seat's notes are in step with both. No choice of a policy is due, as
@@ -22,11 +23,13 @@ pub record Kept (b : Boot) (s : GuestState) (journal : List Event) (notes : List
   pub processors : length s.processors ≡ length b.around.processors
   pub vcpus : length s.vcpus ≡ b.vcpus
 
--- A guest whose virtual processors have all halted has ended. The journal has room for each unload.
+-- A guest whose virtual processors have all halted has ended. Its holder holds what it holds. The journal has room for each unload.
 pub record IsKept (g : Parts) : Type 0 where
   pub sound : IsSound g.course
   pub seat : g.seat.number ≡ g.number.0
   pub kept : Kept g.start (state_of g.course) g.journal.entries g.seat.notes
   pub goes_on : g.course.ended ≡ None → GoesOn (state_of g.course)
+  pub frames : HasFrames (state_of g.course) g.holder.view
+  pub at_home : g.start.around.home < length g.start.around.nodes
   pub no_policy : (g.start.around.policy.migrate ≡ 0) × (g.start.around.policy.replicate ≡ 0)
   pub unloads : loaded_count (state_of g.course) ≤ g.journal.room

@@ -1,4 +1,5 @@
 pub mod Starting
+pub mod Holding
 pub mod GuestView
 pub mod Noting
 pub mod Kept

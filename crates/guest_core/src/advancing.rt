@@ -22,7 +22,8 @@ pub(crate) enum Advanced {
     Emulate,
 }
 
-/// Makes the next entry, with the act that may be left of it. Want of memory comes only at a send, and then nothing has changed.
+/// Makes the next entry, with the act that may be left of it. Want of memory comes only at a send or a disk write, and
+/// then nothing has changed.
 #[inline]
 pub(crate) fn advance(
     course: &mut Course,

@@ -2,14 +2,17 @@
 ghost use Rattle.std.specs.Prelude.{◌≡◌, [], IfOk, length};
 ghost use Rattle.guest_course.specs.BootCalls.{AreWhole};
 ghost use Rattle.guest_core.specs.Starting.{booted_with, filled, MayStart};
+ghost use Rattle.guest_core.specs.Holding.{HoldsFor};
 ghost use Rattle.guest_core.specs.GuestView.{guest_of, IsAtStart};
 ghost use Rattle.guest_core.specs.Kept.{IsKept};
 
 use crate::parts::Parts;
 use crate::start::Start;
 use base_words::{Frame, FrameList, GuestId, InputList, PageList};
+use cow_disk::Disk;
 use elf_image::Image;
 use event_journal::Journal;
+use frame_words::Holder;
 use guest_course::{Around, Course};
 use isolation_law::{run_grows, start_holds};
 use shootdown::GuestSeat;
@@ -36,7 +39,7 @@ fn fill(alloc: Global, frames: &FrameList, pages: PageList) -> Result<FrameList,
 
 impl Parts {
     /// What is kept of the guest of this seat at its start: so many virtual processors, of which none is loaded, and the image's pages, each in the
-    /// next of these frames.
+    /// next of these frames, with this disk. The holder holds these frames.
     pub(crate) fn boot(
         alloc: Global,
         image: Image,
@@ -44,23 +47,27 @@ impl Parts {
         vcpus: u8,
         input: &InputList,
         frames: FrameList,
+        disk: Disk,
+        holder: Holder,
         seat: GuestSeat,
     ) -> Result<Self, AllocError>
-        requires may { MayStart around image vcpus frames }
+        requires may { MayStart around image vcpus frames disk }
+        requires holds { HoldsFor (booted_with around image vcpus frames disk input.now) holder.view }
         requires no_notes { seat.notes ≡ [] }
         ensures kept { IfOk result IsKept }
-        ensures start { IfOk result (λ g. IsAtStart seat.number (booted_with around image vcpus frames input.now) seat.board (guest_of g)) }
+        ensures start { IfOk result (λ g. IsAtStart seat.number (booted_with around image vcpus frames disk input.now) seat.board holder.table (guest_of g)) }
     {
         start_holds();
         run_grows();
-        let start = Start::of(&around, &image, vcpus, &frames, input);
+        let start = Start::of(&around, &image, vcpus, &frames, &disk, input);
         let Image { entry, pages } = image;
         let frames = fill(alloc, &frames, pages)?;
         let number: GuestId = seat.number();
         Ok(Parts {
             number,
             start,
-            course: Course::boot(alloc, around, entry, vcpus, frames, input)?,
+            course: Course::boot(alloc, around, entry, vcpus, frames, disk, input)?,
+            holder,
             journal: Journal::new(alloc),
             seat,
         })

@@ -2,21 +2,24 @@
 ghost use Rattle.std.specs.Prelude.{◌≡◌, ◌≢◌, ◌≤◌, [], ◌∷◌, None};
 ghost use Rattle.base_words.specs.declared.events.Event.TheVariants.{End as Ending};
 ghost use Rattle.base_words.specs.declared.events.End.TheVariants.{Budget};
-ghost use Rattle.guest_core.specs.GuestView.{guest_of, IsSameGuest};
+ghost use Rattle.guest_core.specs.GuestView.{guest_of, IsSameGuest, IsTableOf};
 ghost use Rattle.guest_core.specs.Kept.{IsKept};
 ghost use Rattle.guest_core.specs.GuestCalls.{Makes};
 ghost use Rattle.guest_core.specs.Records.{IsRecord};
 
-use crate::GuestRecord;
 use crate::parts::Parts;
+use crate::releasing::close;
+use crate::{GuestRecord, Resources};
 use base_words::{End, Event, Sequence};
+use frame_words::Holder;
 use isolation_law::{halts_stay, row_keeps, run_grows};
 use shootdown::GuestSeat;
 
 impl Parts {
     /// Ends a guest that hasn't ended, since the plan is done.
-    pub(crate) fn end_budget(&mut self)
+    pub(crate) fn end_budget(&mut self, resources: &Resources)
         requires kept { IsKept self.old }
+        requires table { IsTableOf resources.now.table.now (guest_of self.old) }
         requires room { 2 ≤ (guest_of self.old).room }
         requires not_ended { (guest_of self.old).state.end ≡ None }
         ensures kept { IsKept self.new }
@@ -27,22 +30,30 @@ impl Parts {
         halts_stay();
         row_keeps();
         run_grows();
-        self.course.end(End::Budget);
+        close(
+            &mut self.course,
+            &mut self.holder,
+            resources.table,
+            End::Budget,
+        );
         self.journal.push(Event::End(End::Budget));
     }
 
-    /// What a guest that has ended leaves: its record, and its seat with its notes.
-    pub(crate) fn into_record(self) -> (GuestRecord, GuestSeat)
+    /// What a guest that has ended leaves: its record, its holder with nothing, and its seat with its notes.
+    pub(crate) fn into_record(self) -> (GuestRecord, Holder, GuestSeat)
         requires kept { IsKept self }
         requires ended { (guest_of self).state.end ≢ None }
         ensures left { IsRecord self.start (guest_of self).state result.0 }
         ensures journal { result.0.journal.entries ≡ self.journal.entries }
-        ensures seat { result.1 ≡ self.seat }
+        ensures table { result.1.table ≡ self.holder.table }
+        ensures given_back { result.1.view.holds ≡ [] }
+        ensures seat { result.2 ≡ self.seat }
     {
         let Parts {
             number: _,
             start: _,
             course,
+            holder,
             journal,
             seat,
         } = self;
@@ -55,6 +66,6 @@ impl Parts {
             cells: Sequence::from_vec(course.sent_from),
             end,
         };
-        (record, seat)
+        (record, holder, seat)
     }
 }

@@ -7,21 +7,25 @@ ghost use Rattle.shootdown.specs.declared.notes.Note.TheVariants.{Made};
 ghost use Rattle.shootdown.specs.Notes.{with_side};
 ghost use Rattle.isolation_law.specs.GuestState.{processor as processor_at};
 ghost use Rattle.guest_core.specs.Starting.{booted_with, MayStart};
-ghost use Rattle.guest_core.specs.GuestView.{IsAtStart, IsSameGuest};
+ghost use Rattle.guest_core.specs.Holding.{HasFrames, HoldsFor};
+ghost use Rattle.guest_core.specs.GuestView.{IsAtStart, IsSameGuest, IsTableOf};
 ghost use Rattle.guest_core.specs.Noting.{IsNoted, shows_loaded};
 ghost use Rattle.guest_core.specs.GuestCalls.{Makes, Stays, Learns, LoadsVcpu, told_of_load, MayNote, processor_of, loaded_on, Turns, told_of_turn};
 ghost use Rattle.guest_core.specs.Records.{IsRecord};
 
 use crate::parts::Parts;
-use crate::{GuestRecord, Loaded, Turn};
+use crate::{GuestRecord, Loaded, Resources, Turn};
 use base_words::{End, FrameList, InputList, VcpuId};
+use cow_disk::Disk;
 use elf_image::Image;
+use frame_words::Holder;
 use guest_course::Around;
 use shootdown::{GuestSeat, ProcToken};
 use std::alloc::{AllocError, Global};
 use std::marker::Model;
 
-/// A guest. Contracts see its number, what it was started from, its state and journal, its seat's notes, and the room that was made.
+/// A guest. Contracts see its number, what it was started from, its state and journal, its seat's notes, what its holder holds, and the
+/// room that was made.
 #[derive(Drop)]
 pub struct Guest {
     parts: Parts,
@@ -42,7 +46,7 @@ impl Model for Guest {
 
 impl Guest {
     /// The guest of this seat, at its start: so many virtual processors, of which none is loaded, and the image's pages, each in the
-    /// next of these frames.
+    /// next of these frames, with this disk. The holder holds these frames, with a loan for each that lies outside the home cell.
     pub fn boot(
         alloc: Global,
         image: Image,
@@ -50,21 +54,27 @@ impl Guest {
         vcpus: u8,
         input: &InputList,
         frames: FrameList,
+        disk: Disk,
+        holder: Holder,
         seat: GuestSeat,
     ) -> Result<Self, AllocError>
-        requires may { MayStart around image vcpus frames }
+        requires may { MayStart around image vcpus frames disk }
+        requires holds { HoldsFor (booted_with around image vcpus frames disk input.now) holder.view }
         requires no_notes { seat.notes ≡ [] }
-        ensures { IfOk result (λ g. IsAtStart seat.number (booted_with around image vcpus frames input.now) seat.board g) }
+        ensures { IfOk result (λ g. IsAtStart seat.number (booted_with around image vcpus frames disk input.now) seat.board holder.table g) }
     {
         Ok(Guest {
-            parts: Parts::boot(alloc, image, around, vcpus, input, frames, seat)?,
+            parts: Parts::boot(
+                alloc, image, around, vcpus, input, frames, disk, holder, seat,
+            )?,
         })
     }
 
-    /// How the guest ended; None exactly where it hasn't.
+    /// How the guest ended; None exactly where it hasn't. Its holder holds what the guest does, and nothing once it has ended.
     #[inline]
     pub fn end(&self) -> Option<End>
-        ensures { result ≡ self.now.state.end }
+        ensures end { result ≡ self.now.state.end }
+        ensures frames { HasFrames self.now.state self.now.view }
     {
         self.parts.course.ended
     }
@@ -122,11 +132,17 @@ impl Guest {
     }
 
     /// The virtual processor that is loaded on the token's processor has its turn: `GuestEnded` exactly where the guest has ended, else
-    /// `VcpuHalted` exactly where it has halted; else one step of its own or one refill. Want of memory comes only at a send, and then
-    /// no entry was made. The step that halts the last virtual processor ends the guest.
+    /// `VcpuHalted` exactly where it has halted; else one step of its own or one refill. Want of memory comes only at a send or a disk write,
+    /// and then no entry was made. The step that halts the last virtual processor ends the guest, which gives all its frames back.
     #[inline]
-    pub fn turn(&mut self, alloc: Global, token: &mut ProcToken) -> Result<Turn, AllocError>
+    pub fn turn(
+        &mut self,
+        alloc: Global,
+        token: &mut ProcToken,
+        resources: &Resources,
+    ) -> Result<Turn, AllocError>
         requires room { 2 ≤ self.old.room }
+        requires table { IsTableOf resources.now.table.now self.old }
         requires token { MayNote self.old token.old }
         requires loaded { (processor_at self.old.state token.old.number).loaded ≢ None }
         requires before { self.old.state.end ≢ Some Budget }
@@ -135,26 +151,29 @@ impl Guest {
         ensures same { IsSameGuest self.old self.new }
         ensures room { self.old.room ≤ self.new.room + 2 }
     {
-        self.parts.turn(alloc, token)
+        self.parts.turn(alloc, token, resources)
     }
 
-    /// Ends a guest that hasn't ended, since the plan is done.
-    pub fn end_budget(&mut self)
+    /// Ends a guest that hasn't ended, since the plan is done. It gives all its frames back.
+    pub fn end_budget(&mut self, resources: &Resources)
         requires room { 2 ≤ self.old.room }
+        requires table { IsTableOf resources.now.table.now self.old }
         requires not_ended { self.old.state.end ≡ None }
         ensures makes { Makes self.old (Ending Budget ∷ []) self.new }
         ensures notes { self.new.notes ≡ self.old.notes }
         ensures same { IsSameGuest self.old self.new }
     {
-        self.parts.end_budget();
+        self.parts.end_budget(resources);
     }
 
-    /// What a guest that has ended leaves: its record, and its seat with its notes.
-    pub fn into_record(self) -> (GuestRecord, GuestSeat)
+    /// What a guest that has ended leaves: its record, its holder, which holds nothing, and its seat with its notes.
+    pub fn into_record(self) -> (GuestRecord, Holder, GuestSeat)
         requires { self.state.end ≢ None }
         ensures left { IsRecord self.start self.state result.0 }
         ensures journal { result.0.journal.entries ≡ self.journal }
-        ensures seat { result.1 ≡ record { board = self.board; number = self.number; notes = self.notes } }
+        ensures table { result.1.table ≡ self.table }
+        ensures given_back { result.1.view.holds ≡ [] }
+        ensures seat { result.2 ≡ record { board = self.board; number = self.number; notes = self.notes } }
         ensures sides { All (λ (n : SidedNote). n.side < length self.start.around.processors) self.notes }
         ensures notes { IsNoted self.state self.journal self.notes }
     {

@@ -10,9 +10,12 @@ mod keeping;
 mod loading;
 mod parts;
 mod records;
+mod releasing;
+mod resources;
 mod start;
 mod turning;
 
 pub use answers::{Loaded, Turn};
 pub use guest::Guest;
 pub use records::{Cut, GuestRecord, RecordList, RunRecord, SliceList, SliceRecord};
+pub use resources::Resources;

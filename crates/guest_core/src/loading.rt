@@ -11,7 +11,7 @@ ghost use Rattle.guest_core.specs.GuestCalls.{Makes, Learns, LoadsVcpu, told_of_
 use crate::Loaded;
 use crate::parts::Parts;
 use base_words::{Event, ProcId, VcpuId};
-use isolation_law::{halts_stay, row_keeps, run_grows};
+use isolation_law::{exchanges, halts_stay, row_keeps, run_grows};
 use shootdown::{Note, ProcToken, note};
 
 impl Parts {
@@ -30,6 +30,7 @@ impl Parts {
         ensures same { IsSameGuest (guest_of self.old) (guest_of self.new) }
         ensures room { (guest_of self.old).room ≤ (guest_of self.new).room + 2 }
     {
+        exchanges();
         halts_stay();
         row_keeps();
         run_grows();
@@ -60,6 +61,7 @@ impl Parts {
         ensures same { IsSameGuest (guest_of self.old) (guest_of self.new) }
         ensures room { (guest_of self.old).room ≤ (guest_of self.new).room }
     {
+        exchanges();
         halts_stay();
         row_keeps();
         run_grows();

@@ -2,15 +2,18 @@
 use crate::start::Start;
 use base_words::GuestId;
 use event_journal::Journal;
+use frame_words::Holder;
 use guest_course::Course;
 use shootdown::GuestSeat;
 
-/// What is kept of a guest: its number, what it was started from, its machine with what backs it, its journal, and its seat.
+/// What is kept of a guest: its number, what it was started from, its machine with what backs it, the holder of its frames, its journal,
+/// and its seat.
 #[derive(Drop)]
 pub(crate) struct Parts {
     pub(crate) number: GuestId,
     pub(crate) start: Start,
     pub(crate) course: Course,
+    pub(crate) holder: Holder,
     pub(crate) journal: Journal,
     pub(crate) seat: GuestSeat,
 }

@@ -3,6 +3,7 @@ ghost use Rattle.std.specs.Prelude.{◌≡◌};
 ghost use Rattle.guest_core.specs.Starting.{booted_with};
 
 use base_words::{FrameList, InputList};
+use cow_disk::Disk;
 use elf_image::Image;
 use guest_course::Around;
 use std::marker::Model;
@@ -15,6 +16,7 @@ pub(crate) struct Start {
     image: Snapshot<Image>,
     vcpus: u8,
     frames: Snapshot<FrameList>,
+    disk: Snapshot<Disk>,
     input: Snapshot<InputList>,
 }
 
@@ -25,7 +27,7 @@ impl Model for Start {
 
     ghost use Rattle.guest_core.specs.Starting.{booted_with};
 
-    ghost view = { λ s. booted_with s.around.value s.image.value s.vcpus s.frames.value s.input.value };
+    ghost view = { λ s. booted_with s.around.value s.image.value s.vcpus s.frames.value s.disk.value s.input.value };
 }
 
 impl Start {
@@ -35,15 +37,17 @@ impl Start {
         image: &Image,
         vcpus: u8,
         frames: &FrameList,
+        disk: &Disk,
         input: &InputList,
     ) -> Self
-        ensures { result ≡ booted_with around.now image.now vcpus frames.now input.now }
+        ensures { result ≡ booted_with around.now image.now vcpus frames.now disk.now input.now }
     {
         Start {
             around: Snapshot::of(around),
             image: Snapshot::of(image),
             vcpus,
             frames: Snapshot::of(frames),
+            disk: Snapshot::of(disk),
             input: Snapshot::of(input),
         }
     }

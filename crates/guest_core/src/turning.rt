@@ -1,41 +1,57 @@
 //! One turn of a virtual processor.
-ghost use Rattle.std.specs.Prelude.{◌≡◌, ◌≢◌, ◌≤◌, ◌+◌, ◌++◌, None, Some};
+ghost use Rattle.std.specs.Prelude.{◌≡◌, ◌≢◌, ◌<◌, ◌≤◌, ◌+◌, ◌++◌, None, Some, length};
 ghost use Rattle.base_words.specs.declared.events.End.TheVariants.{Budget};
+ghost use Rattle.frame_words.specs.Holders.{IsMade};
 ghost use Rattle.isolation_law.specs.GuestState.{processor as processor_at};
 ghost use Rattle.isolation_law.specs.Phases.{all_halted};
 ghost use Rattle.guest_course.specs.CourseView.{state_of};
 ghost use Rattle.guest_course.specs.CourseRules.{IsSound};
-ghost use Rattle.guest_core.specs.GuestView.{guest_of, IsSameGuest};
+ghost use Rattle.guest_core.specs.Holding.{HasFrames, FitsAround};
+ghost use Rattle.guest_core.specs.GuestView.{guest_of, IsSameGuest, IsTableOf};
 ghost use Rattle.guest_core.specs.Kept.{IsKept};
 ghost use Rattle.guest_core.specs.GuestCalls.{Learns, MayNote, processor_of, loaded_on, step_entries, Turns, told_of_turn};
 ghost use Rattle.guest_core.specs.TurnParts.{Concludes, MayRun};
 
-use crate::Turn;
 use crate::advancing::{Advanced, advance};
 use crate::parts::Parts;
+use crate::releasing::close;
+use crate::{Resources, Turn};
 use base_words::{End, Event, ProcId, VcpuId};
 use event_journal::Journal;
+use frame_words::{FrameTable, Holder};
 use guest_course::Course;
-use isolation_law::{halts_stay, row_keeps, run_grows};
+use isolation_law::{exchanges, halts_stay, row_keeps, run_grows};
 use shootdown::{Note, ProcToken, note};
 use std::alloc::{AllocError, Global};
 
 /// Puts the step that the monitor made into the journal, and the end of the guest where it halted the last virtual processor.
-fn conclude(course: &mut Course, journal: &mut Journal, processor: ProcId, vcpu: VcpuId)
+fn conclude(
+    course: &mut Course,
+    holder: &mut Holder,
+    table: &FrameTable,
+    journal: &mut Journal,
+    processor: ProcId,
+    vcpu: VcpuId,
+)
     requires sound { IsSound course.old }
+    requires made { IsMade table.now holder.old }
+    requires fits { FitsAround table.now (state_of course.old).around }
+    requires at_home { (state_of course.old).around.home < length (state_of course.old).around.nodes }
+    requires frames { HasFrames (state_of course.old) holder.old.view }
     requires goes_on { course.old.ended ≡ None }
     requires room { 2 ≤ journal.old.room }
     ensures sound { IsSound course.new }
     ensures concludes { Concludes (all_halted course.old.vcpus.items) (state_of course.old) (state_of course.new) }
     ensures entries { journal.new.entries ≡ journal.old.entries ++ step_entries processor vcpu (all_halted course.old.vcpus.items) }
     ensures room { journal.old.room ≤ journal.new.room + 2 }
-    ensures print_room { course.new.devs.print_room ≡ course.old.devs.print_room }
-    ensures send_room { course.new.devs.send_room ≡ course.old.devs.send_room }
+    ensures frames { HasFrames (state_of course.new) holder.new.view }
+    ensures devs { course.new.devs ≡ course.old.devs }
     ensures cells { course.new.sent_from ≡ course.old.sent_from }
+    ensures same { holder.new.table ≡ holder.old.table }
 {
     journal.push(Event::Emulate(processor, vcpu));
     if course.has_halted() {
-        course.end(End::Halted);
+        close(course, holder, table, End::Halted);
         journal.push(Event::End(End::Halted));
     }
 }
@@ -47,10 +63,12 @@ impl Parts {
         alloc: Global,
         token: &mut ProcToken,
         vcpu: VcpuId,
+        resources: &Resources,
     ) -> Result<Turn, AllocError>
         requires kept { IsKept self.old }
         requires room { 2 ≤ (guest_of self.old).room }
         requires token { MayNote (guest_of self.old) token.old }
+        requires table { IsTableOf resources.now.table.now (guest_of self.old) }
         requires loaded { (processor_at (guest_of self.old).state token.old.number).loaded ≡ Some vcpu.0 }
         requires runs { MayRun (guest_of self.old).state vcpu.0 }
         ensures kept { IsKept self.new }
@@ -59,6 +77,7 @@ impl Parts {
         ensures same { IsSameGuest (guest_of self.old) (guest_of self.new) }
         ensures room { (guest_of self.old).room ≤ (guest_of self.new).room + 2 }
     {
+        exchanges();
         halts_stay();
         row_keeps();
         run_grows();
@@ -75,7 +94,14 @@ impl Parts {
                 Ok(Turn::Refilled)
             }
             Advanced::Emulate => {
-                conclude(&mut self.course, &mut self.journal, processor, vcpu);
+                conclude(
+                    &mut self.course,
+                    &mut self.holder,
+                    resources.table,
+                    &mut self.journal,
+                    processor,
+                    vcpu,
+                );
                 let entry = Event::Emulate(processor, vcpu);
                 note(token, &mut self.seat, Note::Made(entry));
                 Ok(Turn::Stepped(None))
@@ -85,10 +111,16 @@ impl Parts {
 
     /// The virtual processor that is loaded on the token's processor has its turn.
     #[inline]
-    pub(crate) fn turn(&mut self, alloc: Global, token: &mut ProcToken) -> Result<Turn, AllocError>
+    pub(crate) fn turn(
+        &mut self,
+        alloc: Global,
+        token: &mut ProcToken,
+        resources: &Resources,
+    ) -> Result<Turn, AllocError>
         requires kept { IsKept self.old }
         requires room { 2 ≤ (guest_of self.old).room }
         requires token { MayNote (guest_of self.old) token.old }
+        requires table { IsTableOf resources.now.table.now (guest_of self.old) }
         requires loaded { (processor_at (guest_of self.old).state token.old.number).loaded ≢ None }
         requires before { (guest_of self.old).state.end ≢ Some Budget }
         ensures kept { IsKept self.new }
@@ -108,6 +140,6 @@ impl Parts {
             note(token, &mut self.seat, Note::Halted(vcpu));
             return Ok(Turn::VcpuHalted);
         }
-        self.enter(alloc, token, vcpu)
+        self.enter(alloc, token, vcpu, resources)
     }
 }

@@ -3,6 +3,7 @@ use Rattle.std.proofs.Common.{◌≡◌, ℕ, zero, suc, ◌+◌, ◌*◌, ◌^�
 use Rattle.std.proofs.lemmas.List.{length-map, length-append, length-replicate}
 use Rattle.std.proofs.Math.Nat.{suc-mul, mul-le-mul_right}
 use Rattle.private_machine.specs.DevicePage.{nothing_set}
+use Rattle.private_machine.specs.Disk.{Block}
 use Rattle.private_machine.specs.Showing.{shown_by, shown_from}
 use Rattle.std.specs.List.{Contains}
 use Rattle.base_words.specs.declared.frame.Frame.{Frame}
@@ -24,7 +25,7 @@ use Rattle.guest_course.specs.CourseRules.{AllStand, IsSound}
 use Rattle.guest_course.specs.Rebacking.{AllPlain}
 use Rattle.guest_course.specs.declared.site.Around.{Around}
 use Rattle.guest_course.specs.declared.course.Course.{Course}
-use Rattle.guest_course.specs.BootCalls.{found_of, boot_of, free_place, AreWhole, AllBelow, MayBoot}
+use Rattle.guest_course.specs.BootCalls.{found_of, given_blocks, boot_of, free_place, AreWhole, AllBelow, MayBoot}
 
 taken : (bytes rest : List ℕ) (n : ℕ) → length bytes ≡ n → take n (bytes ++ rest) ≡ bytes
 taken [] rest zero e = refl
@@ -89,10 +90,11 @@ free-stand around frames k (n ∷ nodes) same below told = (
 )
 
 -- what a course has that is booted
-pub record Booted (c : Course) (around : Around) (entry vcpus : ℕ) (frames : List Frame) (input : List InputEntry) : Type 0 where
+pub record Booted (c : Course) (around : Around) (entry vcpus : ℕ) (frames : List Frame) (disk : List Block) (input : List InputEntry) : Type 0 where
   pub around_is : c.around ≡ around
   pub vcpus_are : c.vcpus.items ≡ replicate vcpus (started entry)
   pub devs : c.devs.state ≡ fresh vcpus (length frames) input
+  pub disk_is : c.disk ≡ disk
   pub pages : c.pmap.pages ≡ map own_page frames
   pub spares : c.pmap.spares ≡ []
   pub places : c.places.items ≡ map (free_place around.site.shape.frames) around.site.processors
@@ -110,10 +112,12 @@ map-replicate f (suc n) a = ap (λ l. f a ∷ l) (map-replicate f n a)
 node-count : (around : Around) → length (surroundings around).nodes ≡ around.site.shape.nodes
 node-count around = length-map around.site.shape.cells _ ∙ around.site.shape.has_cells
 
-pub booted-state : (c : Course) (around : Around) (entry vcpus : ℕ) (frames : List Frame) (input : List InputEntry) → AreWhole frames → Booted c around entry vcpus frames input → state_of c ≡ start (boot_of around entry vcpus frames input)
-booted-state c around entry vcpus frames input whole b =
+pub booted-state : (c : Course) (around : Around) (entry vcpus : ℕ) (frames : List Frame) (disk : List Block) (input : List InputEntry) → MayBoot around vcpus frames disk → Booted c around entry vcpus frames disk input
+    → state_of c ≡ start (boot_of around entry vcpus frames (given_blocks disk) input)
+booted-state c around entry vcpus frames disk input may b =
     let count : length (map found_of frames) ≡ length frames = length-map frames found_of in
-    let pages = b.pages ∙ sym (pages-start frames whole) in
+    let pages = b.pages ∙ sym (pages-start frames may.whole) in
+    let blocks = b.disk_is ∙ may.unwritten in
     let operations : length c.pmap.pages ≡ length (map found_of frames) = ap length b.pages ∙ length-map frames own_page ∙ sym count in
     let misses = b.counters ∙ (λ i. replicate (sym count i) (no_misses (sym (node-count around) i))) in
     let processors : length around.site.processors ≡ length (surroundings around).processors = sym (length-map around.site.processors _) in
@@ -121,7 +125,7 @@ booted-state c around entry vcpus frames input whole b =
       around = surroundings (b.around_is i);
       vcpus = b.vcpus_are i;
       devices = (b.devs i).page;
-      disk = [];
+      disk = blocks i;
       sent_from = map (λ x. x.0) (b.sent_from i);
       received = [];
       discarded = [];
@@ -140,13 +144,13 @@ booted-state c around entry vcpus frames input whole b =
     }
 
 -- the boot is the law's
-pub is-boot : (around : Around) (entry vcpus : ℕ) (frames : List Frame) (input : List InputEntry) → MayBoot around vcpus frames → IsBoot (boot_of around entry vcpus frames input)
-is-boot around entry vcpus frames input may = record {
+pub is-boot : (around : Around) (entry vcpus : ℕ) (frames : List Frame) (disk : List Block) (input : List InputEntry) → MayBoot around vcpus frames disk → IsBoot (boot_of around entry vcpus frames (given_blocks disk) input)
+is-boot around entry vcpus frames disk input may = record {
   has_vcpu = may.some_vcpus;
   few_processors = subst (λ (n : ℕ). n ≤ 16) (sym (length-map around.site.processors _)) may.few_processors;
   backed = length-map frames found_of;
   whole = memory-length frames may.whole;
-  blocks = λ k lt. absurd (omega arith);
+  blocks = may.blocks;
 }
 
 -- nothing is shown yet
@@ -162,8 +166,9 @@ index-told (n ∷ nodes) (suc i) lt = index-told nodes i (omega arith)
 places-stand : (around : Around) → AllBelow around.site.shape.nodes around.site.processors → AllStand (surroundings around) 0 (map (free_place around.site.shape.frames) around.site.processors)
 places-stand around below = free-stand (surroundings around) around.site.shape.frames 0 around.site.processors refl (subst (λ (n : ℕ). AllBelow n around.site.processors) (sym (node-count around)) below) (λ i lt. index-told around.site.processors i lt ∙ ap (node_of_processor (surroundings around)) (let e : i ≡ 0 + i = omega arith in e))
 
-pub booted-sound : (c : Course) (around : Around) (entry vcpus : ℕ) (frames : List Frame) (input : List InputEntry) → MayBoot around vcpus frames → Booted c around entry vcpus frames input → Coherent (state_of c) → IsSound c
-booted-sound c around entry vcpus frames input may b co =
+pub booted-sound : (c : Course) (around : Around) (entry vcpus : ℕ) (frames : List Frame) (disk : List Block) (input : List InputEntry) → MayBoot around vcpus frames disk → Booted c around entry vcpus frames disk input
+    → Coherent (state_of c) → IsSound c
+booted-sound c around entry vcpus frames disk input may b co =
     let count : length c.vcpus.items ≡ vcpus = ap length b.vcpus_are ∙ length-replicate vcpus (started entry) in
     let place_count : length c.places.items ≡ length around.site.processors = ap length b.places ∙ length-map around.site.processors (free_place around.site.shape.frames) in
     let page_count : length c.pmap.pages ≡ length frames = ap length b.pages ∙ length-map frames own_page in
@@ -201,8 +206,8 @@ below-at count [] node all it = absurd (omega arith)
 below-at count (n ∷ nodes) node all (zero, lt, is) = subst (λ (m : NodeId). m.0 < count) is all.0
 below-at count (n ∷ nodes) node all (suc k, lt, is) = below-at count nodes node all.1 (k, (omega arith), is)
 
-pub frames-fit : (around : Around) (vcpus : ℕ) (frames : List Frame) → MayBoot around vcpus frames → (node : NodeId) → Contains around.site.processors node → node.0 * around.site.shape.frames + around.site.shape.frames < 2 ^ 32
-frames-fit around vcpus frames may node it = node-fits node.0 around.site.shape.nodes around.site.shape.frames (below-at around.site.shape.nodes around.site.processors node may.on_nodes it) may.few_frames
+pub frames-fit : (around : Around) (vcpus : ℕ) (frames : List Frame) (disk : List Block) → MayBoot around vcpus frames disk → (node : NodeId) → Contains around.site.processors node → node.0 * around.site.shape.frames + around.site.shape.frames < 2 ^ 32
+frames-fit around vcpus frames disk may node it = node-fits node.0 around.site.shape.nodes around.site.shape.frames (below-at around.site.shape.nodes around.site.processors node may.on_nodes it) may.few_frames
 
 -- nothing but nothing is a copy of nothing
 pub only-none : {A : Type 0} (P : Option A → Type 0) → ((x : A) → P (Some x) → ⊥) → (y : Option A) → P y → y ≡ None

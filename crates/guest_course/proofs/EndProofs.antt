@@ -2,8 +2,7 @@
 use Rattle.std.proofs.Common.{◌≡◌, ℕ, zero, suc, ◌<◌, ◌≤◌, ◌++◌, List, [], ◌∷◌, Option, Some, None, length, map, get_or, is_some, replicate, if◌then◌else◌, Bool, false, refl, ap, ◌∙◌, sym, subst, arith}
 use Rattle.base_words.specs.declared.events.End.{End}
 use Rattle.base_words.specs.declared.events.End.TheVariants.{Halted, Budget, CellFailed}
-use Rattle.private_machine.specs.Backing.{Copy, Page, Move, page_at}
-use Rattle.private_machine.specs.PageMove.{held_in}
+use Rattle.private_machine.specs.Backing.{Page, Move, page_at}
 use Rattle.isolation_law.specs.Parts.{Wish}
 use Rattle.isolation_law.specs.Dues.{without_moving}
 use Rattle.isolation_law.specs.EndRows.{MayEnd, Ends, is_taking}
@@ -12,14 +11,6 @@ use Rattle.guest_course.specs.declared.course.Course.{Course}
 use Rattle.guest_course.specs.CourseView.{state_of}
 use Rattle.guest_course.specs.CourseRules.{IsSound}
 use Rattle.guest_course.specs.Rebacking.{AllPlain}
-
--- a guest that holds no frame has no pages and no spares
-pub nothing-held : (pages : List Page) (spares : List Copy) → held_in pages spares ≡ [] → (pages ≡ []) × (spares ≡ [])
-nothing-held [] spares e = (refl, e)
-nothing-held (g ∷ pages) spares e = absurd (some g.master e)
-  where
-    some : {l : List Copy} (x : Copy) → x ∷ l ≡ [] → ⊥
-    some x e = cc
 
 -- no plain page has a move, and so none that isn't there
 rests : (pages : List Page) → AllPlain pages → (q : ℕ) → (page_at pages q).move ≡ None

@@ -18,4 +18,8 @@ pub mod EmulateProofs
 pub mod BootProofs
 pub mod ReadyLemmas
 pub mod EndProofs
+pub mod TaskLemmas
+pub mod TaskRows
+pub mod CommandRows
+pub mod SendRows
 pub mod LeaveProofs

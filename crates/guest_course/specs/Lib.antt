@@ -10,5 +10,7 @@ pub mod RefillCalls
 pub mod EmulateCalls
 pub mod BootCalls
 pub mod EntryCalls
+pub mod Tasks
 pub mod LeavingCalls
+pub mod EndCalls
 pub mod Executed

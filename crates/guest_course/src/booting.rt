@@ -6,12 +6,13 @@ ghost use Rattle.isolation_law.specs.Phases.{GoesOn};
 ghost use Rattle.isolation_law.specs.Start.{start};
 ghost use Rattle.guest_course.specs.CourseView.{state_of};
 ghost use Rattle.guest_course.specs.CourseRules.{IsSound};
-ghost use Rattle.guest_course.specs.BootCalls.{boot_of, MayBoot, free_place};
+ghost use Rattle.guest_course.specs.BootCalls.{given_blocks, boot_of, MayBoot, free_place};
 
 use crate::course::Course;
 use crate::place::Place;
 use crate::site::Around;
 use base_words::{FrameList, InputList, NodeId, NodeList};
+use cow_disk::Disk;
 use guest_devs::Devs;
 use hw_tlb::HwTlb;
 use isolation_law::start_holds;
@@ -62,18 +63,20 @@ fn no_entries(alloc: Global, vcpus: u8) -> Result<Vec<L2>, AllocError>
 }
 
 impl Course {
-    /// A guest of so many virtual processors whose first instruction stands at this address, with its input to come. Each page has
-    /// the next of these frames, which has the image's bytes in it. Nothing is loaded or mapped yet.
+    /// A guest of so many virtual processors whose first instruction stands at this address, with a disk of which it has written
+    /// nothing, and with its input to come. Each page has the next of these frames, which has the image's bytes in it. Nothing is
+    /// loaded or mapped yet.
     pub fn boot(
         alloc: Global,
         around: Around,
         entry: u32,
         vcpus: u8,
         frames: FrameList,
+        disk: Disk,
         input: &InputList,
     ) -> Result<Course, AllocError>
-        requires { MayBoot around vcpus frames }
-        ensures start { IfOk result (λ course. state_of course ≡ start (boot_of around entry vcpus frames input.now)) }
+        requires { MayBoot around vcpus frames disk }
+        ensures start { IfOk result (λ course. state_of course ≡ start (boot_of around entry vcpus frames (given_blocks disk) input.now)) }
         ensures sound { IfOk result IsSound }
         ensures goes_on { IfOk result (λ course. GoesOn (state_of course)) }
     {
@@ -85,6 +88,7 @@ impl Course {
         Ok(Course {
             vcpus: vec![in alloc; Vcpu::new(entry); vcpus as usize]?,
             devs: Devs::new(alloc, vcpus, pages, input)?,
+            disk,
             pmap: Pmap::boot(alloc, frames)?,
             places,
             seconds: no_entries(alloc, vcpus)?,

@@ -1,42 +1,36 @@
 //! What is left of a step that stores to a register of the device page: a disk command, or a send.
-ghost use Rattle.std.specs.Prelude.{◌≡◌, ◌<◌, ◌≤◌, ◌+◌, ℕ, Some, IfOk, OnOk, OnErr, length, map};
-ghost use Rattle.guest_devs.specs.declared.act.DevAct.TheVariants.{Send};
+ghost use Rattle.std.specs.Prelude.{◌≡◌, ◌<◌, ◌≤◌, ◌+◌, ◌∷◌, ◌++◌, [], ℕ, false, IfOk, OnOk, OnErr, length, map, slice_index_or};
 ghost use Rattle.std.specs.Vec.{vec_len, vec_capacity};
+ghost use Rattle.private_machine.specs.Backing.{page_at, with_first};
+ghost use Rattle.private_machine.specs.Devices.{with_sent};
+ghost use Rattle.private_machine.specs.Disk.{no_block, block_now};
+ghost use Rattle.private_machine.specs.Links.{unlinked_page};
 ghost use Rattle.private_machine.specs.Showing.{shown_by};
 ghost use Rattle.private_machine.specs.Signals.{changed};
+ghost use Rattle.pmap_table.specs.PageMap.{with_page};
 ghost use Rattle.guest_devs.specs.DeviceCalls.{on_page};
 ghost use Rattle.guest_devs.specs.Shown.{Agree};
 ghost use Rattle.isolation_law.specs.StepRows.{IsEmulated, Emulates};
-ghost use Rattle.isolation_law.specs.Surroundings.{cell_of_frame};
-ghost use Rattle.guest_course.specs.CourseView.{surroundings, state_of};
+ghost use Rattle.guest_course.specs.CourseView.{state_of};
 ghost use Rattle.guest_course.specs.CourseRules.{IsSound};
 ghost use Rattle.guest_course.specs.EmulateCalls.{LeavesAct, StaysLoaded};
 ghost use Rattle.guest_course.specs.Joining.{joined_page};
-ghost use Rattle.guest_course.specs.LeavingCalls.{passing, passed, IsParcelOf, acted_page, acted_cells, cells_with, with_packet, IsLeft, UsesCell};
+ghost use Rattle.guest_course.specs.Rebacking.{AllPlain};
+ghost use Rattle.guest_course.specs.Tasks.{IsThere, done_page, done_cells, done_pages, done_vcpus, done_disk};
+ghost use Rattle.guest_course.specs.LeavingCalls.{passing, passed, UsesCell};
 
 use crate::course::Course;
 use crate::stepping::tick;
-use base_words::{Bytes, CellId, FrameNo, Ppn, VcpuId};
+use crate::task::{DONE, Parcel, Task};
+use base_words::{Ppn, VcpuId};
+use cow_disk::Disk;
 use guest_devs::{DevAct, Devs};
 use isolation_law::{pages_seen, row_keeps};
 use mips_retire::pass;
-use private_machine::Vcpu;
+use pmap_table::Pmap;
+use private_machine::{Vcpu, unlink_page};
 use std::alloc::{AllocError, Global};
 use trap_emulate::step_leads;
-
-/// The most bytes of a packet.
-const LONGEST_PACKET: u32 = 4096;
-
-/// The status of a disk command for a block that the disk doesn't have.
-const NO_BLOCK: u32 = 1;
-
-/// A packet that is sent, and the cell of the page that it was.
-#[derive(Debug, Drop)]
-pub struct Parcel {
-    pub to: u32,
-    pub bytes: Bytes,
-    pub cell: CellId,
-}
 
 /// An instruction is passed, which shows nothing new.
 fn pass_by(vcpus: &mut [Vcpu], vcpu: VcpuId)
@@ -64,53 +58,44 @@ fn begin(vcpus: &mut [Vcpu], devs: &mut Devs, vcpu: VcpuId)
     pass_by(vcpus, vcpu);
 }
 
+/// A block as the guest reads it comes into a page that is the guest's own and has no replicas.
+fn copy_block(disk: &Disk, pmap: &mut Pmap, block: u32, page: Ppn)
+    requires block { block < length disk.now }
+    requires page { page.0 < length pmap.old.pages }
+    requires plain { AllPlain pmap.old.pages }
+    ensures { pmap.new ≡ with_page pmap.old page.0 (with_first (block_now (slice_index_or disk.now block no_block)) (page_at pmap.old.pages page.0)) }
+{
+    match disk.read_block(block) {
+        Some(bytes) => pmap.copy_bytes_in(page, bytes.bytes()),
+        None => unreachable!(),
+    }
+}
+
 impl Course {
-    /// The cell in which a frame lies.
-    fn cell_of(&self, frame: FrameNo) -> CellId
-        ensures { result.0 ≡ cell_of_frame (surroundings self.now.around) frame.0 }
+    /// Writes the guest's own block where a page is to go into one. Where memory is wanting, nothing changes.
+    fn save(&mut self, task: &Task) -> Result<(), AllocError>
+        requires { IsThere (length self.old.disk) (length self.old.pmap.pages) task.now }
+        ensures same { self.new ≡ record self.old { disk = self.new.disk } }
+        ensures saved { OnOk result (self.new.disk ≡ done_disk self.old.pmap.pages task.now self.old.disk) }
+        ensures err { OnErr result (self.new ≡ self.old) }
     {
-        let shape = &self.around.site.shape;
-        let node = frame.0 / shape.frames;
-        match shape.cells.as_slice().get(node as usize) {
-            Some(cell) => *cell,
-            None => CellId(0),
+        if let Task::Write(block, page) = task {
+            self.disk.write_block(*block, self.pmap.page(*page))?;
         }
+        Ok(())
     }
 
-    /// The packet that a virtual processor sends, where it has set a page that is there and a length that a packet may have.
-    fn packet_to(&self, alloc: Global, vcpu: VcpuId, to: u32) -> Result<Option<Parcel>, AllocError>
-        requires { vcpu.0 < length self.now.devs.state.page.transfers }
-        ensures { IfOk result (λ parcel. IsParcelOf (state_of self.now) vcpu.0 (Send to) parcel) }
+    /// A block comes into a page, and nobody links a line of the page any more.
+    fn fill_page(&mut self, block: u32, page: Ppn)
+        requires block { block < length self.old.disk }
+        requires page { page.0 < length self.old.pmap.pages }
+        requires plain { AllPlain self.old.pmap.pages }
+        ensures same { self.new ≡ record self.old { vcpus = self.new.vcpus; pmap = self.new.pmap } }
+        ensures vcpus { self.new.vcpus.items ≡ map (unlinked_page page.0) self.old.vcpus.items }
+        ensures pages { self.new.pmap ≡ with_page self.old.pmap page.0 (with_first (block_now (slice_index_or self.old.disk block no_block)) (page_at self.old.pmap.pages page.0)) }
     {
-        let transfer = self.devs.transfer(vcpu);
-        let length = transfer.send_length;
-        if transfer.send_page >= self.pmap.len() || length == 0 || length > LONGEST_PACKET {
-            return Ok(None);
-        }
-        let page = Ppn(transfer.send_page);
-        let mut bytes = Vec::with_capacity(alloc, length as usize)?;
-        bytes.extend_from_slice(&self.pmap.page(page).bytes()[..length as usize])?;
-        Ok(Some(Parcel {
-            to,
-            bytes: Bytes::from_vec(bytes),
-            cell: self.cell_of(self.pmap.master(page)),
-        }))
-    }
-
-    /// The packet of an act, if it is a send that may be made.
-    fn parcel_of(
-        &self,
-        alloc: Global,
-        vcpu: VcpuId,
-        act: DevAct,
-    ) -> Result<Option<Parcel>, AllocError>
-        requires { vcpu.0 < length self.now.devs.state.page.transfers }
-        ensures { IfOk result (λ parcel. IsParcelOf (state_of self.now) vcpu.0 act parcel) }
-    {
-        match act {
-            DevAct::Send(to) => self.packet_to(alloc, vcpu, to),
-            DevAct::Done | DevAct::DiskRead | DevAct::DiskWrite => Ok(None),
-        }
+        copy_block(&self.disk, &mut self.pmap, block, page);
+        unlink_page(&mut self.vcpus, page);
     }
 
     /// Puts a packet at the end of the sent list, with its cell.
@@ -118,8 +103,8 @@ impl Course {
         requires send_room { 0 < self.old.devs.send_room }
         requires cells { vec_len self.old.sent_from < vec_capacity self.old.sent_from }
         ensures same { self.new ≡ record self.old { devs = self.new.devs; sent_from = self.new.sent_from } }
-        ensures devs { self.new.devs.state ≡ on_page self.old.devs.state (with_packet (Some parcel) self.old.devs.state.page) }
-        ensures cells { self.new.sent_from.items ≡ cells_with (Some parcel) self.old.sent_from.items }
+        ensures devs { self.new.devs.state ≡ on_page self.old.devs.state (with_sent self.old.devs.state.page parcel.to parcel.bytes) }
+        ensures cells { self.new.sent_from.items ≡ self.old.sent_from.items ++ parcel.cell ∷ [] }
         ensures print_room { self.new.devs.print_room ≡ self.old.devs.print_room }
         ensures send_room { self.old.devs.send_room ≤ self.new.devs.send_room + 1 }
         ensures cell_room { UsesCell self.old.sent_from self.new.sent_from }
@@ -128,32 +113,36 @@ impl Course {
         self.sent_from.push_reserved(parcel.cell);
     }
 
-    /// Does an act.
-    fn act(&mut self, vcpu: VcpuId, act: DevAct, parcel: Option<Parcel>)
-        requires there { vcpu.0 < length self.old.devs.state.page.transfers }
-        requires left { IsLeft act }
+    /// Does what is left of a task once a page that goes into a block stands there.
+    fn perform(&mut self, vcpu: VcpuId, task: Task)
+        requires vcpu { vcpu.0 < length self.old.devs.state.page.transfers }
+        requires there { IsThere (length self.old.disk) (length self.old.pmap.pages) task }
+        requires plain { AllPlain self.old.pmap.pages }
         requires send_room { 0 < self.old.devs.send_room }
         requires cells { vec_len self.old.sent_from < vec_capacity self.old.sent_from }
-        ensures same { self.new ≡ record self.old { devs = self.new.devs; sent_from = self.new.sent_from } }
-        ensures devs { self.new.devs.state ≡ on_page self.old.devs.state (acted_page vcpu.0 act parcel self.old.devs.state.page) }
-        ensures cells { self.new.sent_from.items ≡ acted_cells act parcel self.old.sent_from.items }
+        ensures same { self.new ≡ record self.old { vcpus = self.new.vcpus; devs = self.new.devs; pmap = self.new.pmap; sent_from = self.new.sent_from } }
+        ensures vcpus { self.new.vcpus.items ≡ done_vcpus task self.old.vcpus.items }
+        ensures devs { self.new.devs.state ≡ on_page self.old.devs.state (done_page vcpu.0 task self.old.devs.state.page) }
+        ensures pages { self.new.pmap ≡ record self.old.pmap { pages = done_pages self.old.disk task self.old.pmap.pages } }
+        ensures cells { self.new.sent_from.items ≡ done_cells task self.old.sent_from.items }
         ensures print_room { self.new.devs.print_room ≡ self.old.devs.print_room }
         ensures send_room { self.old.devs.send_room ≤ self.new.devs.send_room + 1 }
         ensures cell_room { UsesCell self.old.sent_from self.new.sent_from }
     {
-        match act {
-            DevAct::DiskRead | DevAct::DiskWrite => self.devs.set_status(vcpu, NO_BLOCK),
-            DevAct::Send(_) => {
-                if let Some(parcel) = parcel {
-                    self.send(parcel);
-                }
+        match task {
+            Task::Refuse(status) => self.devs.set_status(vcpu, status),
+            Task::Read(block, page) => {
+                self.fill_page(block, page);
+                self.devs.set_status(vcpu, DONE);
             }
-            DevAct::Done => unreachable!(),
+            Task::Write(..) => self.devs.set_status(vcpu, DONE),
+            Task::Send(parcel) => self.send(parcel),
+            Task::Skip => {}
         }
     }
 
-    /// Makes the step of which this act is left. Want of memory comes only at a send, and then nothing has changed. The guest has no
-    /// disk, so a disk command has the status of a block that isn't there.
+    /// Makes the step of which this act is left. Want of memory comes only at a send and where the guest writes a block for the first
+    /// time, and then nothing has changed.
     pub fn carry_out(&mut self, alloc: Global, vcpu: VcpuId, act: DevAct) -> Result<(), AllocError>
         requires sound { IsSound self.old }
         requires left { (p : ℕ) × LeavesAct (state_of self.old) p vcpu.0 act (state_of self.old) }
@@ -170,9 +159,10 @@ impl Course {
         row_keeps();
         pages_seen();
         step_leads();
-        let parcel = self.parcel_of(alloc, vcpu, act)?;
+        let task = self.task_of(alloc, vcpu, act)?;
+        self.save(&task)?;
         begin(&mut self.vcpus, &mut self.devs, vcpu);
-        self.act(vcpu, act, parcel);
+        self.perform(vcpu, task);
         tick(&mut self.vcpus, vcpu);
         Ok(())
     }

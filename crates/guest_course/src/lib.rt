@@ -18,14 +18,15 @@ mod readiness;
 mod refilling;
 mod site;
 mod stepping;
+mod task;
 
 pub use course::Course;
 pub use emulating::Emulation;
 pub use entering::Entry;
-pub use leaving::Parcel;
 pub use place::{Place, Wish};
 pub use refilling::Refill;
 pub use site::{Around, Site};
+pub use task::Parcel;
 
 #[cfg(test)]
 mod tests;

@@ -1,14 +1,21 @@
 //! A guest that runs, entry by entry.
-ghost use Rattle.std.specs.Prelude.{◌≡◌, ◌∷◌, [], IfOk, length};
+ghost use Rattle.std.specs.Prelude.{◌≡◌, ◌<◌, ◌≤◌, ◌∷◌, [], ℕ, IfOk, length, slice_index_or};
+ghost use Rattle.std.specs.Arc.{arc_value};
+ghost use Rattle.cow_disk.specs.DiskView.{bytes_of};
 ghost use Rattle.guest_course.specs.BootCalls.{AreWhole};
+ghost use Rattle.guest_course.specs.CourseRules.{IsSound};
+ghost use Rattle.guest_course.specs.CourseView.{state_of};
+ghost use Rattle.guest_course.specs.StepCalls.{MayStep};
 
 use crate::{Around, Course, Entry, Site};
 use base_words::{
-    CellId, DataAccess, Frame, FrameList, FrameNo, GuestId, NodeId, Page, Policy, ProcId, Sequence,
-    Shape, VcpuId,
+    Blocks, CellId, DataAccess, Frame, FrameList, FrameNo, GuestId, NodeId, Page, Policy, ProcId,
+    Sequence, Shape, VcpuId,
 };
+use cow_disk::Disk;
 use std::alloc::{AllocError, Global};
 use std::process::Abort;
+use std::sync::Arc;
 use std::test::Fail;
 
 /// A program at the start of memory: LUI 2, CFFF; ORI 2, 2, F000; LUI 3, C000; ORI 1, 0, 48; SW 1, 1000(3); LW 4, 1000(3);
@@ -18,13 +25,28 @@ const PROGRAM: [u8; 32] = [
     0xAC, 0x61, 0x10, 0x00, 0x8C, 0x64, 0x10, 0x00, 0xAC, 0x44, 0x00, 0x00, 0xAC, 0x40, 0x00, 0x04,
 ];
 
-/// Two frames of node 0 with the program.
-fn frames(alloc: Global) -> Result<FrameList, AllocError>
+/// A program at the start of memory: LUI 2, CFFF; ORI 2, 2, F000; LUI 3, C000; ORI 1, 0, 1; SW 1, 24(2); SW 1, 28(2);
+/// LBU 4, 1000(3); ADDIU 4, 4, 1; SB 4, 1000(3); ORI 5, 0, 2; SW 5, 28(2); SB 0, 1000(3); SW 1, 28(2); LBU 4, 1000(3); SW 4, 0(2);
+/// SW 1, 20(2); SW 1, 28(2); LW 4, 2C(2); ADDIU 4, 4, 30; SW 4, 0(2); SW 0, 4(2). It reads block 0 into the second page, adds 1 to its
+/// first byte, writes the page back, clears the byte, reads the block again, and prints the byte; reads block 1, prints the
+/// status as a digit, and halts.
+const DISK_PROGRAM: [u8; 84] = [
+    0x3C, 0x02, 0xCF, 0xFF, 0x34, 0x42, 0xF0, 0x00, 0x3C, 0x03, 0xC0, 0x00, 0x34, 0x01, 0x00, 0x01,
+    0xAC, 0x41, 0x00, 0x24, 0xAC, 0x41, 0x00, 0x28, 0x90, 0x64, 0x10, 0x00, 0x24, 0x84, 0x00, 0x01,
+    0xA0, 0x64, 0x10, 0x00, 0x34, 0x05, 0x00, 0x02, 0xAC, 0x45, 0x00, 0x28, 0xA0, 0x60, 0x10, 0x00,
+    0xAC, 0x41, 0x00, 0x28, 0x90, 0x64, 0x10, 0x00, 0xAC, 0x44, 0x00, 0x00, 0xAC, 0x41, 0x00, 0x20,
+    0xAC, 0x41, 0x00, 0x28, 0x8C, 0x44, 0x00, 0x2C, 0x24, 0x84, 0x00, 0x30, 0xAC, 0x44, 0x00, 0x00,
+    0xAC, 0x40, 0x00, 0x04,
+];
+
+/// Two frames of node 0 with a program.
+fn frames(alloc: Global, program: &[u8]) -> Result<FrameList, AllocError>
+    requires { length program.now ≤ 4096 }
     ensures count { IfOk result (λ frames. length frames ≡ 2) }
     ensures whole { IfOk result AreWhole }
 {
     let mut first = Page::zeroed(alloc)?;
-    first.fill_from(0, PROGRAM.as_slice());
+    first.fill_from(0, program);
     let mut frames = Sequence::new(alloc);
     frames.push(Frame {
         number: FrameNo(2),
@@ -87,13 +109,15 @@ fn kind(entry: Entry) -> (u8, Option<FrameNo>) {
 #[test]
 fn a_guest_prints_what_it_stored(rt: HostRuntime) -> Result<(), Fail> {
     let alloc = rt.alloc();
-    let frames = frames(alloc)?;
+    let frames = frames(alloc, PROGRAM.as_slice())?;
+    let disk = Disk::new(alloc, None);
     let mut course = Course::boot(
         alloc,
         around(alloc)?,
         0xC000_0000,
         1,
         frames,
+        disk,
         &Sequence::new(alloc),
     )?;
     course.load(ProcId(0), VcpuId(0));
@@ -122,5 +146,57 @@ fn a_guest_prints_what_it_stored(rt: HostRuntime) -> Result<(), Fail> {
     assert!(rt; 0 < course.places.len());
     assert_eq!(rt; course.ready(ProcId(0)), None);
     assert!(rt; *course.devs.console() == *b"H".as_slice());
+    Ok(())
+}
+
+/// A disk of one block, whose first byte is a G.
+fn block(alloc: Global) -> Result<Arc<Blocks>, AllocError>
+    ensures one { IfOk result (λ base. length (arc_value base) ≡ 1) }
+    ensures whole { IfOk result (λ base. (k : ℕ) → k < length (bytes_of (arc_value base)) → length (slice_index_or (bytes_of (arc_value base)) k []) ≡ 4096) }
+{
+    let mut page = Page::zeroed(alloc)?;
+    page.set_byte(0, b'G');
+    let mut blocks = Sequence::new(alloc);
+    blocks.push(page)?;
+    Ok(Arc::new(alloc, blocks)?)
+}
+
+/// Makes an entry on the processor, and carries out what it leaves.
+fn advance(alloc: Global, course: &mut Course, vcpu: VcpuId) -> Result<(), AllocError>
+    requires sound { IsSound course.old }
+    requires may { MayStep (state_of course.old) 0 vcpu.0 }
+    ensures { IsSound course.new }
+{
+    course.reserve()?;
+    if let Entry::Left(act) = course.make_entry(ProcId(0), vcpu) {
+        course.carry_out(alloc, vcpu, act)?;
+    }
+    Ok(())
+}
+
+#[test]
+fn a_guest_prints_what_its_disk_has(rt: HostRuntime) -> Result<(), Fail> {
+    let alloc = rt.alloc();
+    let frames = frames(alloc, DISK_PROGRAM.as_slice())?;
+    let disk = Disk::new(alloc, Some(block(alloc)?));
+    let mut course = Course::boot(
+        alloc,
+        around(alloc)?,
+        0xC000_0000,
+        1,
+        frames,
+        disk,
+        &Sequence::new(alloc),
+    )?;
+    course.load(ProcId(0), VcpuId(0));
+    for _entry in 0..60 {
+        assert!(rt; 0 < course.places.len());
+        let Some(vcpu) = course.ready(ProcId(0)) else {
+            break;
+        };
+        advance(alloc, &mut course, vcpu)?;
+    }
+    assert!(rt; course.has_halted());
+    assert!(rt; *course.devs.console() == *b"H1".as_slice());
     Ok(())
 }

@@ -11,7 +11,7 @@ ghost use Rattle.guest_lock.specs.Guests.{IsGuestOf};
 use crate::kept::Kept;
 use crate::{BURST_TURNS, Burst, Starts};
 use base_words::VcpuId;
-use guest_core::{Guest, Loaded, Turn};
+use guest_core::{Guest, Loaded, Resources, Turn};
 use outside_io::{Gate, GatePoint};
 use shootdown::ProcToken;
 use std::alloc::{AllocError, Global};
@@ -28,7 +28,7 @@ pub struct GuestCell<N: Starts, const G: u8> {
 impl<N: Starts, const G: u8> GuestCell<N, G> {
     /// Puts a guest under its lock.
     pub fn new(guest: Guest) -> Self
-        requires { IsGuestOf N.starts N.board G guest }
+        requires { IsGuestOf N.starts N.board N.table G guest }
     {
         GuestCell {
             guest: Mutex::new(Kept {
@@ -71,15 +71,17 @@ impl<N: Starts, const G: u8> GuestCell<N, G> {
         rt: &R,
         alloc: Global,
         token: &mut ProcToken,
+        resources: &Resources,
         gate: &T,
         at: GatePoint,
     ) -> Result<Turn, AllocError>
         requires token { Fits N.starts N.board token.old }
         requires loaded { shown G token.old ≢ None }
+        requires table { resources.now.table.now ≡ N.table }
         ensures { token.new ≡ with_told token.old G (told_of_turn (processor_of token.old) (vcpu_shown G token.old) result) }
     {
         let mut kept = self.guest.lock(rt);
-        let turn = kept.turn(alloc, token, gate, at);
+        let turn = kept.turn(alloc, token, resources, gate, at);
         if kept.guest.end().is_some() {
             self.moved.notify_all();
         }
@@ -93,18 +95,20 @@ impl<N: Starts, const G: u8> GuestCell<N, G> {
         rt: &R,
         alloc: Global,
         token: &mut ProcToken,
+        resources: &Resources,
         gate: &T,
         at: GatePoint,
         steps: u64,
     ) -> Burst
         requires token { Fits N.starts N.board token.old }
         requires loaded { shown G token.old ≢ None }
+        requires table { resources.now.table.now ≡ N.table }
         ensures few { result.steps ≤ steps }
         ensures whole { result.stop ≡ Paused → (result.steps ≡ steps) ⊎ (result.turns ≡ BURST_TURNS) }
         ensures told { Bursts token.old G result token.new }
     {
         let mut kept = self.guest.lock(rt);
-        let burst = kept.burst(alloc, token, gate, at, steps);
+        let burst = kept.burst(alloc, token, resources, gate, at, steps);
         if kept.guest.end().is_some() {
             self.moved.notify_all();
         }
@@ -123,7 +127,7 @@ impl<N: Starts, const G: u8> GuestCell<N, G> {
 
     /// The guest, out of its lock.
     pub fn take_out(self) -> Guest
-        ensures { IsGuestOf N.starts N.board G result }
+        ensures { IsGuestOf N.starts N.board N.table G result }
     {
         let GuestCell { guest, moved: _ } = self;
         let Kept { guest, of: _ } = guest.into_inner();

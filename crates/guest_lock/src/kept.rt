@@ -3,6 +3,7 @@ ghost use Rattle.std.specs.Prelude.{◌≡◌, ◌≢◌, ◌⊎◌, ◌≤◌, 
 ghost use Rattle.base_words.specs.declared.events.End.TheVariants.{Budget};
 ghost use Rattle.base_words.specs.declared.events.Event.TheVariants.{Unload};
 ghost use Rattle.shootdown.specs.declared.notes.Note.TheVariants.{Made};
+ghost use Rattle.guest_core.specs.GuestView.{IsTableOf};
 ghost use Rattle.guest_core.specs.GuestCalls.{processor_of, told_of_turn};
 ghost use Rattle.guest_lock.specs.declared.burst.Stop.TheVariants.{Paused};
 ghost use Rattle.guest_lock.specs.Fits.{Fits, HasVcpu};
@@ -11,7 +12,7 @@ ghost use Rattle.guest_lock.specs.Told.{with_told, shown, vcpu_shown, told_of_lo
 use crate::Starts;
 use crate::burst::{BURST_TURNS, Burst, Stop};
 use base_words::VcpuId;
-use guest_core::{Guest, Loaded, Turn};
+use guest_core::{Guest, Loaded, Resources, Turn};
 use outside_io::{Gate, GatePoint};
 use shootdown::ProcToken;
 use std::alloc::{AllocError, Global};
@@ -25,6 +26,7 @@ pub(crate) struct Kept<N: Starts, const G: u8> {
     ghost number_is: { guest.number ≡ G },
     ghost start_is: { slice_get N.starts G ≡ Some guest.start },
     ghost board_is: { guest.board ≡ N.board },
+    ghost table_is: { IsTableOf N.table guest },
     ghost goes_on: { guest.state.end ≢ Some Budget },
 }
 
@@ -56,17 +58,19 @@ impl<N: Starts, const G: u8> Kept<N, G> {
         &mut self,
         alloc: Global,
         token: &mut ProcToken,
+        resources: &Resources,
         gate: &T,
         at: GatePoint,
     ) -> Result<Turn, AllocError>
         requires token { Fits N.starts N.board token.old }
         requires loaded { shown G token.old ≢ None }
+        requires table { resources.now.table.now ≡ N.table }
         ensures { token.new ≡ with_told token.old G (told_of_turn (processor_of token.old) (vcpu_shown G token.old) result) }
     {
         gate.pass(at);
         self.guest.make_room()?;
         self.guest.agree(token);
-        self.guest.turn(alloc, token)
+        self.guest.turn(alloc, token, resources)
     }
 
     /// Makes turns until one is neither a step nor a refill, there were so many steps, or there were enough turns.
@@ -74,12 +78,14 @@ impl<N: Starts, const G: u8> Kept<N, G> {
         &mut self,
         alloc: Global,
         token: &mut ProcToken,
+        resources: &Resources,
         gate: &T,
         at: GatePoint,
         steps: u64,
     ) -> Burst
         requires token { Fits N.starts N.board token.old }
         requires loaded { shown G token.old ≢ None }
+        requires table { resources.now.table.now ≡ N.table }
         ensures few { result.steps ≤ steps }
         ensures whole { result.stop ≡ Paused → (result.steps ≡ steps) ⊎ (result.turns ≡ BURST_TURNS) }
         ensures told { Bursts token.old G result token.new }
@@ -93,7 +99,7 @@ impl<N: Starts, const G: u8> Kept<N, G> {
                 turn: at.turn.saturating_add(turn),
                 ..at
             };
-            burst.count(self.turn(alloc, token, gate, here));
+            burst.count(self.turn(alloc, token, resources, gate, here));
         }
         burst
     }

@@ -47,9 +47,7 @@ image_text image.Memory = codes "memory"
 
 -- the path of a key that isn't built
 abbrev pub key_text : UnbuiltKey → List ℕ
-key_text key.Nodes = codes "machine.nodes"
 key_text key.Cache = codes "machine.cache"
-key_text (key.Disk guest) = codes "guest[" ++ (decimal guest ++ codes "].disk")
 key_text key.Migrate = codes "policy.migrate"
 key_text key.Replicate = codes "policy.replicate"
 key_text (key.Act item) = codes "work[" ++ (decimal item ++ codes "].act")

@@ -2,6 +2,7 @@ pub mod Counted
 pub mod Report
 pub mod FaultLines
 pub mod Alone
+pub mod Sources
 pub mod Monitored
 pub mod Ends
 pub mod Headline

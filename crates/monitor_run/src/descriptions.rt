@@ -194,6 +194,42 @@ const READS_A_BLOCK: [u8; 60] = [
 
 const DISK: Change<'static> = ("vcpus = 1", "vcpus = 1\ndisk = \"d.img\"");
 
+const FOUR_PAGES: Change<'static> = ("pages = 16", "pages = 4");
+
+const FOUR_FRAMES: Change<'static> = ("frames = 16", "frames = 4");
+
+/// Reads block 0 into page 2, prints its low byte, puts a byte of input in its place and writes the block; reads it into page 3, and
+/// prints its low byte.
+const WRITES_A_BLOCK: [u8; 84] = [
+    0x3C, 0x10, 0xCF, 0xFF, 0x36, 0x10, 0xF0, 0x00, 0xAE, 0x00, 0x00, 0x20, 0x24, 0x08, 0x00, 0x02,
+    0xAE, 0x08, 0x00, 0x24, 0x24, 0x09, 0x00, 0x01, 0xAE, 0x09, 0x00, 0x28, 0x3C, 0x0A, 0xC0, 0x00,
+    0x8D, 0x4B, 0x20, 0x00, 0xAE, 0x0B, 0x00, 0x00, 0x8E, 0x0B, 0x00, 0x08, 0xAD, 0x4B, 0x20, 0x00,
+    0x24, 0x09, 0x00, 0x02, 0xAE, 0x09, 0x00, 0x28, 0x24, 0x08, 0x00, 0x03, 0xAE, 0x08, 0x00, 0x24,
+    0x24, 0x09, 0x00, 0x01, 0xAE, 0x09, 0x00, 0x28, 0x8D, 0x4B, 0x30, 0x00, 0xAE, 0x0B, 0x00, 0x00,
+    0xAE, 0x00, 0x00, 0x04,
+];
+
+/// The same for a guest of one page.
+const MORE_PAGES: Change<'static> = ("pages = 1\n", "pages = 4\n");
+
+/// Guest 0 runs until it has written its block, guest 1 to its halt, and guest 0 again; each has a byte of its own typed.
+const ONE_WITHIN_THE_OTHER: Change<'static> = (
+    "guest = 0\nvcpu = 0\nsteps = 5\n",
+    "guest = 0\nvcpu = 0\nsteps = 14\n[[work]]\nact = \"run\"\nprocessor = 0\nguest = 1\nvcpu = 0\nsteps = 21\n[[work]]\nact = \"run\"\nprocessor = 0\nguest = 0\nvcpu = 0\nsteps = 7\n[[input]]\nguest = 0\nat = 0\ntext = \"x\"\n[[input]]\nguest = 1\nat = 0\ntext = \"y\"\n",
+);
+
+/// Two nodes of 4 frames, each a cell of its own; the second one lends two frames.
+const CELLS: Change<'static> = (
+    "nodes = 1\nframes = 16\nprocessors = [0]\n",
+    "nodes = 2\nframes = 4\nprocessors = [0]\n[[cell]]\nnodes = [0]\n[[cell]]\nnodes = [1]\nlend = 2\n",
+);
+
+/// A guest of 4 pages at home on the second node, with no work.
+const SECOND_GUEST: Change<'static> = (
+    "[[work]]",
+    "[[guest]]\nimage = \"a.raw\"\nform = \"raw\"\npages = 4\nvcpus = 1\nnode = 1\n[[work]]",
+);
+
 const FIFTEEN_STEPS: Change<'static> = ("steps = 5", "steps = 15");
 
 /// A move and a failure behind the run.
@@ -244,9 +280,21 @@ fn guests_run_alone(rt: HostRuntime) -> Result<(), Fail> {
             ..private()
         },
         Case {
-            changes: &[DISK, FIFTEEN_STEPS, MOVE_AND_FAILURE],
+            changes: &[DISK, FIFTEEN_STEPS],
             image: &READS_A_BLOCK,
             output: "guest 0 console 2\nab\nend halted\n",
+            ..private()
+        },
+        Case {
+            changes: &[
+                TWO_GUESTS,
+                DISK,
+                MORE_PAGES,
+                FOUR_PAGES,
+                ONE_WITHIN_THE_OTHER,
+            ],
+            image: &WRITES_A_BLOCK,
+            output: "guest 0 console 2\nax\nend halted\nguest 1 console 2\nay\nend halted\n",
             ..private()
         },
     ];
@@ -283,6 +331,86 @@ fn guests_run_under_the_monitor(rt: HostRuntime) -> Result<(), Fail> {
             changes: &[INPUT],
             image: &PRINTS_INPUT,
             output: "guest 0 console 1\nZ\nend halted\nsums steps 5 refills 1 moves 0 skips 0 breaks 0 shared 0 received 0 discarded 0\n",
+            ..machine()
+        },
+    ];
+    Ok(try_all(&rt, rt.alloc(), &cases)?)
+}
+
+/// Two nodes of 4 frames in cells of their own: the guest's own cell gives 4, and the other one lends 2. On two nodes of one cell no
+/// frame takes a loan. Guests that are short are refused with what they need and what they have.
+#[test]
+fn guests_over_nodes_and_cells(rt: HostRuntime) -> Result<(), Fail> {
+    let cases = [
+        Case {
+            changes: &[CELLS, ("pages = 16", "pages = 6")],
+            output: WITH_SUMS,
+            ..machine()
+        },
+        refused(
+            &[CELLS, ("pages = 16", "pages = 7")],
+            7,
+            "fault admission guest 0 needs 7 has 6\n",
+        ),
+        Case {
+            option: "--private",
+            ..refused(
+                &[CELLS, ("pages = 16", "pages = 7")],
+                7,
+                "fault admission guest 0 needs 7 has 6\n",
+            )
+        },
+        refused(
+            &[CELLS, SECOND_GUEST, ("pages = 16", "pages = 5")],
+            7,
+            "fault admission guest 1 needs 4 has 3\n",
+        ),
+        Case {
+            changes: &[CELLS, SECOND_GUEST, ("pages = 16", "pages = 4")],
+            output: "guest 0 console 1\nA\nend halted\nsums steps 5 refills 1 moves 0 skips 0 breaks 0 shared 0 received 0 discarded 0\nguest 1 console 0\n\nend budget\nsums steps 0 refills 0 moves 0 skips 0 breaks 0 shared 0 received 0 discarded 0\n",
+            guests: 2,
+            ..machine()
+        },
+        Case {
+            changes: &[("nodes = 1", "nodes = 2"), ("pages = 16", "pages = 32")],
+            output: WITH_SUMS,
+            ..machine()
+        },
+        refused(
+            &[("nodes = 1", "nodes = 2"), ("pages = 16", "pages = 33")],
+            7,
+            "fault admission guest 0 needs 33 has 32\n",
+        ),
+    ];
+    Ok(try_all(&rt, rt.alloc(), &cases)?)
+}
+
+/// A disk's read into a page is no refill; each slice of a guest refills anew. Guests that name one file see their own writes only.
+#[test]
+fn guests_with_disks_under_the_monitor(rt: HostRuntime) -> Result<(), Fail> {
+    let cases = [
+        Case {
+            changes: &[DISK],
+            output: "guest 0 console 1\nA\nend halted\nsums steps 5 refills 1 moves 0 skips 0 breaks 0 shared 0 received 0 discarded 0\n",
+            ..machine()
+        },
+        Case {
+            changes: &[DISK, FIFTEEN_STEPS, FOUR_PAGES, FOUR_FRAMES],
+            image: &READS_A_BLOCK,
+            output: "guest 0 console 2\nab\nend halted\nsums steps 15 refills 2 moves 0 skips 0 breaks 0 shared 0 received 0 discarded 0\n",
+            ..machine()
+        },
+        Case {
+            changes: &[
+                TWO_GUESTS,
+                DISK,
+                MORE_PAGES,
+                FOUR_PAGES,
+                ONE_WITHIN_THE_OTHER,
+            ],
+            image: &WRITES_A_BLOCK,
+            output: "guest 0 console 2\nax\nend halted\nsums steps 21 refills 4 moves 0 skips 0 breaks 0 shared 0 received 0 discarded 0\nguest 1 console 2\nay\nend halted\nsums steps 21 refills 3 moves 0 skips 0 breaks 0 shared 0 received 0 discarded 0\n",
+            guests: 2,
             ..machine()
         },
     ];
@@ -360,16 +488,10 @@ fn descriptions_are_refused(rt: HostRuntime) -> Result<(), Fail> {
 fn what_isnt_built_is_refused(rt: HostRuntime) -> Result<(), Fail> {
     let cases = [
         refused(
-            &[("nodes = 1", "nodes = 2")],
-            5,
-            "fault description unbuilt machine.nodes\n",
-        ),
-        refused(
             &[("processors = [0]", "processors = [0]\ncache = 1")],
             5,
             "fault description unbuilt machine.cache\n",
         ),
-        refused(&[DISK], 5, "fault description unbuilt guest[0].disk\n"),
         refused(
             &[("[[work]]", "[policy]\nmigrate = 1\n[[work]]")],
             5,
@@ -385,8 +507,21 @@ fn what_isnt_built_is_refused(rt: HostRuntime) -> Result<(), Fail> {
             5,
             "fault description unbuilt work[1].act\n",
         ),
+        refused(
+            &[DISK, FIFTEEN_STEPS, MOVE_AND_FAILURE],
+            5,
+            "fault description unbuilt work[1].act\n",
+        ),
     ];
-    Ok(try_all(&rt, rt.alloc(), &cases)?)
+    try_all(&rt, rt.alloc(), &cases)?;
+    for case in &cases {
+        let alone = Case {
+            option: "--private",
+            ..*case
+        };
+        try_case(&rt, rt.alloc(), &alone)?;
+    }
+    Ok(())
 }
 
 #[test]

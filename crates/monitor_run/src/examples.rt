@@ -75,6 +75,45 @@ fn try_example<R: Abort + Threads + Wait + Sync>(
     Ok(())
 }
 
+/// Six pages on frames of two cells.
+const LOANS: &[Part<'static>] = &[(
+    0,
+    &[
+        0x3C10CFFF, 0x3610F000, 0x3C08C000, 0x25080800, 0x24090061, 0x252A0006, 0xAD090000,
+        0x25081000, 0x25290001, 0x152AFFFC, 0x00000000, 0x240A0006, 0x2508F000, 0x8D090000,
+        0xAE090000, 0x254AFFFF, 0x1540FFFB, 0x00000000, 0xAE000004,
+    ],
+)];
+
+const LOANS_DESCRIPTION: &str =
+    "# One guest of six pages at home in a cell of four frames; the other cell lends it two.
+[machine]
+nodes = 2
+frames = 4
+processors = [0]
+
+[[cell]]
+nodes = [0]
+
+[[cell]]
+nodes = [1]
+lend = 2
+
+[[guest]]
+image = \"examples/loans/guest.raw\"
+form = \"raw\"
+pages = 6
+vcpus = 1
+node = 0
+
+[[work]]
+act = \"run\"
+processor = 0
+guest = 0
+vcpu = 0
+steps = 100
+";
+
 /// Prints a text.
 const HELLO: &[Part<'static>] = &[
     (
@@ -380,8 +419,8 @@ fn examples_print_what_they_should(rt: HostRuntime) -> Result<(), Fail> {
             description: DISK_DESCRIPTION,
             images: &[("examples/disk/guest.raw", DISK)],
             disk: b"disco",
-            status: 5,
-            monitored: "fault description unbuilt guest[0].disk\n",
+            status: 0,
+            monitored: "guest 0 console 13\ndisco DISCO 1\nend halted\nsums steps 121 refills 3 moves 0 skips 0 breaks 0 shared 0 received 0 discarded 0\n",
             alone: "guest 0 console 13\ndisco DISCO 1\nend halted\n",
         },
         Example {
@@ -404,6 +443,15 @@ fn examples_print_what_they_should(rt: HostRuntime) -> Result<(), Fail> {
             status: 0,
             monitored: "guest 0 console 26\nABCDEFGHIJKLMNOPQRSTUVWXYZ\nend halted\nsums steps 109 refills 1 moves 0 skips 0 breaks 0 shared 0 received 0 discarded 0\nguest 1 console 5\n65536\nend halted\nsums steps 63 refills 2 moves 0 skips 0 breaks 0 shared 0 received 0 discarded 0\n",
             alone: "guest 0 console 26\nABCDEFGHIJKLMNOPQRSTUVWXYZ\nend halted\nguest 1 console 5\n65536\nend halted\n",
+        },
+        Example {
+            about: "loans",
+            description: LOANS_DESCRIPTION,
+            images: &[("examples/loans/guest.raw", LOANS)],
+            disk: &[],
+            status: 0,
+            monitored: "guest 0 console 6\nfedcba\nend halted\nsums steps 74 refills 6 moves 0 skips 0 breaks 0 shared 0 received 0 discarded 0\n",
+            alone: "guest 0 console 6\nfedcba\nend halted\n",
         },
     ];
     let alloc = rt.alloc();

@@ -89,9 +89,7 @@ fn key_text(alloc: Global, key: UnbuiltKey) -> Result<String, AllocError>
     ensures { IfOk result (λ text. string_bytes text ≡ key_text_of key) }
 {
     match key {
-        UnbuiltKey::Nodes => String::from_str(alloc, "machine.nodes"),
         UnbuiltKey::Cache => String::from_str(alloc, "machine.cache"),
-        UnbuiltKey::Disk(guest) => format!(in alloc; "guest[{guest}].disk"),
         UnbuiltKey::Migrate => String::from_str(alloc, "policy.migrate"),
         UnbuiltKey::Replicate => String::from_str(alloc, "policy.replicate"),
         UnbuiltKey::Act(item) => format!(in alloc; "work[{item}].act"),

@@ -8,6 +8,7 @@ mod monitored;
 mod private_run;
 mod render;
 mod report;
+mod sources;
 mod sums;
 mod top;
 

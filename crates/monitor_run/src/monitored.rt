@@ -6,6 +6,7 @@ ghost use Rattle.admission.specs.Unbuilt.{unbuilt};
 ghost use Rattle.admission.specs.Views.{starts_of};
 ghost use Rattle.monitor_run.specs.Monitored.{IsRun};
 
+use crate::sources::sources;
 use admission::Setup;
 use guest_core::RunRecord;
 use isolation_law::isolation;
@@ -31,8 +32,9 @@ pub fn run_monitored<R: Threads + Wait + Sync, G: Gate>(
         machine,
         plan,
         images,
-        disks: _,
-        numbers: _,
+        disks,
+        numbers,
     } = setup;
-    run(rt, alloc, &machine, &plan, images, gate)
+    let sources = sources(alloc, images, disks, numbers.as_slice())?;
+    run(rt, alloc, &machine, &plan, sources, gate)
 }

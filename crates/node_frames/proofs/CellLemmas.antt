@@ -3,7 +3,7 @@ use Rattle.std.proofs.Common.{◌≡◌, ◌≢◌, ℕ, zero, suc, ◌+◌, ◌
 use Rattle.std.specs.Prelude.{Contains, Option, filter, find, cond, slice_get}
 use Rattle.std.proofs.lemmas.List.Elements.{All-filter, All-contains, filter_passes, Contains-append_right, Contains-append_cases}
 use Rattle.std.proofs.lemmas.Option.{get_or_from_slice_get, slice_get_within, slice_get-get_or}
-use Rattle.base_words.specs.declared.frame.Shape.{Shape}
+use Rattle.node_frames.specs.Layout.{Layout}
 use Rattle.base_words.specs.declared.ids.NodeId.{NodeId}
 use Rattle.frame_words.specs.Holders.{MadeTable}
 use Rattle.frame_words.specs.declared.view.View.{View}
@@ -35,29 +35,29 @@ contains_filter {X} p (y ∷ xs) x passes c = ⊎_elim
     keeps true there = Contains-append_right (y ∷ []) (filter p xs) x there
     keeps false there = there
 
-abbrev on_cell : Shape → ℕ → NodeId → Bool
-on_cell shape cell n = cell_of_node shape n.0 == cell
+abbrev on_cell : Layout → ℕ → NodeId → Bool
+on_cell layout cell n = cell_of_node layout n.0 == cell
 
--- each node of a cell's is one of the shape's, and is in that cell
-pub cell_nodes-below : (shape : Shape) (cell : ℕ) → AreNodes shape (cell_nodes shape cell)
-cell_nodes-below shape cell = All-filter (on_cell shape cell) (Below shape.nodes) (nodes_below shape.nodes) (nodes_below-below shape.nodes shape.nodes (omega arith))
+-- each node of a cell's is one of the layout's, and is in that cell
+pub cell_nodes-below : (layout : Layout) (cell : ℕ) → AreNodes layout (cell_nodes layout cell)
+cell_nodes-below layout cell = All-filter (on_cell layout cell) (Below layout.nodes) (nodes_below layout.nodes) (nodes_below-below layout.nodes layout.nodes (omega arith))
 
-cell_nodes-on : (shape : Shape) (cell k : ℕ) (node : NodeId) → slice_get (cell_nodes shape cell) k ≡ Some node → cell_of_node shape node.0 ≡ cell
-cell_nodes-on shape cell k node there =
-    let passes = filter_passes (on_cell shape cell) (nodes_below shape.nodes) k node (slice_get_within (cell_nodes shape cell) k node there) in
-    eqb-true (cell_of_node shape node.0) cell (ap (on_cell shape cell) (sym (get_or_from_slice_get (cell_nodes shape cell) k node node there)) ∙ passes)
+cell_nodes-on : (layout : Layout) (cell k : ℕ) (node : NodeId) → slice_get (cell_nodes layout cell) k ≡ Some node → cell_of_node layout node.0 ≡ cell
+cell_nodes-on layout cell k node there =
+    let passes = filter_passes (on_cell layout cell) (nodes_below layout.nodes) k node (slice_get_within (cell_nodes layout cell) k node there) in
+    eqb-true (cell_of_node layout node.0) cell (ap (on_cell layout cell) (sym (get_or_from_slice_get (cell_nodes layout cell) k node node there)) ∙ passes)
 
-pub cell_falls : (table : MadeTable) (shape : Shape) (cell number g : ℕ) (v w : View) → FitsShape table shape → v.alone ≡ true
-    → Finds shape table.terms.lends cell (cell_nodes shape cell) number g v w
-    → cell_frames shape (left_of shape table.terms.lends w) cell + 1 ≡ cell_frames shape (left_of shape table.terms.lends v) cell
-cell_falls table shape cell number g v w fits alone f =
+pub cell_falls : (table : MadeTable) (layout : Layout) (cell number g : ℕ) (v w : View) → FitsShape table layout → v.alone ≡ true
+    → Finds layout table.terms.lends cell (cell_nodes layout cell) number g v w
+    → cell_frames layout (left_of layout table.terms.lends w) cell + 1 ≡ cell_frames layout (left_of layout table.terms.lends v) cell
+cell_falls table layout cell number g v w fits alone f =
     let lends = table.terms.lends in
-    let within = node_within shape (cell_nodes shape cell) f.place f.node (cell_nodes-below shape cell) f.ordered in
-    let low = cell_low table shape f.node.0 fits within in
-    let fewer = frames-here shape cell f.node.0 number g v w f.tail low alone f.took f.on lends in
-    let here = cell_frames-here shape cell (left_of shape lends v) f.node.0 within (omega arith) in
-    ap (λ (l : Left). cell_frames shape l cell + 1) (left_after shape cell f.node.0 number g v w f.tail low alone f.took f.on lends table.terms.few_cells)
-    ∙ subst (λ c. cell_frames shape (taking shape cell (left_of shape lends v) f.node.0) c + 1 ≡ cell_frames shape (left_of shape lends v) c) (cell_nodes-on shape cell f.place f.node f.ordered) (sym here)
+    let within = node_within layout (cell_nodes layout cell) f.place f.node (cell_nodes-below layout cell) f.ordered in
+    let low = cell_low table layout f.node.0 fits within in
+    let fewer = frames-here layout cell f.node.0 number g v w f.tail low alone f.took fits.lies.has_frames f.on lends in
+    let here = cell_frames-here layout cell (left_of layout lends v) f.node.0 within (omega arith) in
+    ap (λ (l : Left). cell_frames layout l cell + 1) (left_after layout cell f.node.0 number g v w f.tail low alone f.took fits.lies.has_frames f.on lends table.terms.few_cells)
+    ∙ subst (λ c. cell_frames layout (taking layout cell (left_of layout lends v) f.node.0) c + 1 ≡ cell_frames layout (left_of layout lends v) c) (cell_nodes-on layout cell f.place f.node f.ordered) (sym here)
 
 -- none of an order passes, or the first that does is among it
 abbrev NonePass : (NodeId → Bool) → List NodeId → Type 0
@@ -85,65 +85,65 @@ find_cases p (x ∷ xs) = by_test (p x) refl (find_cases p xs)
         rest
 
 -- a search by the boot order lowers what a guest has by one where it has something
-one_search : (table : MadeTable) (shape : Shape) (home : ℕ) (start : NodeId) (left : Left) → FitsShape table shape → start.0 < shape.nodes → 0 < has shape home left
-    → has shape home (after_search shape home (boot_nodes shape start) left) + 1 ≡ has shape home left
-one_search table shape home start left fits within some = ⊎_elim
-    (λ (h : NonePass test (boot_nodes shape start)).
-    let none = has-zero shape home left (λ node below.
-    let c = boot_contains shape start node within below in
-    h.1 c.0 (record { 0 = node }) (slice_get-get_or (boot_nodes shape start) c.0 (record { 0 = node }) c.1 ∙ ap (λ (n : NodeId). Some n) c.2)) in
+one_search : (table : MadeTable) (layout : Layout) (home : ℕ) (start : NodeId) (left : Left) → FitsShape table layout → start.0 < layout.nodes → 0 < has layout home left
+    → has layout home (after_search layout home (boot_nodes layout start) left) + 1 ≡ has layout home left
+one_search table layout home start left fits within some = ⊎_elim
+    (λ (h : NonePass test (boot_nodes layout start)).
+    let none = has-zero layout home left (λ node below.
+    let c = boot_contains layout start node within below in
+    h.1 c.0 (record { 0 = node }) (slice_get-get_or (boot_nodes layout start) c.0 (record { 0 = node }) c.1 ∙ ap (λ (n : NodeId). Some n) c.2)) in
     absurd (omega arith))
-    (λ (h : OnePasses test (boot_nodes shape start)).
-    let below : h.0.0 < shape.nodes = All-contains (λ (n : NodeId). n.0 < shape.nodes) (boot_nodes shape start) h.0 (boot_nodes-below shape start within) h.3 in
-    ap (λ (o : Option NodeId). has shape home (left_by shape home left o) + 1) h.1 ∙ has-taking shape home left h.0.0 below (cell_low table shape h.0.0 fits below) h.2)
-    (find_cases test (boot_nodes shape start))
+    (λ (h : OnePasses test (boot_nodes layout start)).
+    let below : h.0.0 < layout.nodes = All-contains (λ (n : NodeId). n.0 < layout.nodes) (boot_nodes layout start) h.0 (boot_nodes-below layout start within) h.3 in
+    ap (λ (o : Option NodeId). has layout home (left_by layout home left o) + 1) h.1 ∙ has-taking layout home left h.0.0 below (cell_low table layout h.0.0 fits below) h.2)
+    (find_cases test (boot_nodes layout start))
   where
     test : NodeId → Bool
-    test n = node_gives shape home left n.0
+    test n = node_gives layout home left n.0
 
 -- one search more
-pub after_searches-more : (shape : Shape) (home : ℕ) (order : List NodeId) (k : ℕ) (left : Left) → after_searches shape home order (k + 1) left ≡ after_search shape home order (after_searches shape home order k left)
-after_searches-more shape home order k left = ap (λ n. after_searches shape home order n left) (add-one k)
+pub after_searches-more : (layout : Layout) (home : ℕ) (order : List NodeId) (k : ℕ) (left : Left) → after_searches layout home order (k + 1) left ≡ after_search layout home order (after_searches layout home order k left)
+after_searches-more layout home order k left = ap (λ n. after_searches layout home order n left) (add-one k)
 
-pub searches_take : (table : MadeTable) (shape : Shape) (home : ℕ) (start : NodeId) (left : Left) (k : ℕ) → FitsShape table shape → start.0 < shape.nodes → k ≤ has shape home left
-    → has shape home (after_searches shape home (boot_nodes shape start) k left) + k ≡ has shape home left
-searches_take table shape home start left zero fits within few = omega arith
-searches_take table shape home start left (suc k) fits within few =
-    let before = searches_take table shape home start left k fits within (omega arith) in
-    let more = one_search table shape home start (after_searches shape home (boot_nodes shape start) k left) fits within (omega arith) in omega arith
+pub searches_take : (table : MadeTable) (layout : Layout) (home : ℕ) (start : NodeId) (left : Left) (k : ℕ) → FitsShape table layout → start.0 < layout.nodes → k ≤ has layout home left
+    → has layout home (after_searches layout home (boot_nodes layout start) k left) + k ≡ has layout home left
+searches_take table layout home start left zero fits within few = omega arith
+searches_take table layout home start left (suc k) fits within few =
+    let before = searches_take table layout home start left k fits within (omega arith) in
+    let more = one_search table layout home start (after_searches layout home (boot_nodes layout start) k left) fits within (omega arith) in omega arith
 
 -- the same over a cell's own nodes
-cell_none : (shape : Shape) (left : Left) (cell : ℕ) → NonePass (λ (n : NodeId). node_gives shape cell left n.0) (cell_nodes shape cell) → cell_frames shape left cell ≡ 0
-cell_none shape left cell h = cell_frames-zero shape left cell (λ node within on.
-    let c = contains_filter (on_cell shape cell) (nodes_below shape.nodes) (record { 0 = node }) (eq-eqb (cell_of_node shape node) cell on) (below_contains node shape.nodes within) in
+cell_none : (layout : Layout) (left : Left) (cell : ℕ) → NonePass (λ (n : NodeId). node_gives layout cell left n.0) (cell_nodes layout cell) → cell_frames layout left cell ≡ 0
+cell_none layout left cell h = cell_frames-zero layout left cell (λ node within on.
+    let c = contains_filter (on_cell layout cell) (nodes_below layout.nodes) (record { 0 = node }) (eq-eqb (cell_of_node layout node) cell on) (below_contains node layout.nodes within) in
     ⊎_elim
     (λ (e : left.frames node ≡ 0). e)
-    (λ (x : (cell_of_node shape node ≢ cell) × (left.loans (cell_of_node shape node) ≡ 0)). absurd (x.0 on))
-    (gives_nothing shape cell left node (h.1 c.0 (record { 0 = node }) (slice_get-get_or (cell_nodes shape cell) c.0 (record { 0 = node }) c.1 ∙ ap (λ (n : NodeId). Some n) c.2))))
+    (λ (x : (cell_of_node layout node ≢ cell) × (left.loans (cell_of_node layout node) ≡ 0)). absurd (x.0 on))
+    (gives_nothing layout cell left node (h.1 c.0 (record { 0 = node }) (slice_get-get_or (cell_nodes layout cell) c.0 (record { 0 = node }) c.1 ∙ ap (λ (n : NodeId). Some n) c.2))))
 
-pub cell_nothing : (shape : Shape) (lends : List ℕ) (cell : ℕ) (list : List Shown) (v w : View) → v.alone ≡ true → FindsNone shape lends cell (cell_nodes shape cell) list v w
-    → cell_frames shape (left_of shape lends v) cell ≡ 0
-cell_nothing shape lends cell list v w alone f =
-    let each = none_give shape lends cell (cell_nodes shape cell) list v w alone f in
-    cell_none shape (left_of shape lends v) cell (find_none (λ (n : NodeId). node_gives shape cell (left_of shape lends v) n.0) (cell_nodes shape cell) each, each)
+pub cell_nothing : (layout : Layout) (lends : List ℕ) (cell : ℕ) (list : List Shown) (v w : View) → v.alone ≡ true → FindsNone layout lends cell (cell_nodes layout cell) list v w
+    → cell_frames layout (left_of layout lends v) cell ≡ 0
+cell_nothing layout lends cell list v w alone f =
+    let each = none_give layout lends cell (cell_nodes layout cell) list v w alone f in
+    cell_none layout (left_of layout lends v) cell (find_none (λ (n : NodeId). node_gives layout cell (left_of layout lends v) n.0) (cell_nodes layout cell) each, each)
 
-one_cell_search : (shape : Shape) (cell : ℕ) (left : Left) → 0 < cell_frames shape left cell
-    → cell_frames shape (after_search shape cell (cell_nodes shape cell) left) cell + 1 ≡ cell_frames shape left cell
-one_cell_search shape cell left some = ⊎_elim
-    (λ (h : NonePass test (cell_nodes shape cell)). let none = cell_none shape left cell h in absurd (omega arith))
-    (λ (h : OnePasses test (cell_nodes shape cell)).
-    let below : h.0.0 < shape.nodes = All-contains (λ (n : NodeId). n.0 < shape.nodes) (cell_nodes shape cell) h.0 (cell_nodes-below shape cell) h.3 in
-    let on = cell_nodes-on shape cell h.3.0 h.0 (slice_get-get_or (cell_nodes shape cell) h.3.0 h.0 h.3.1 ∙ ap (λ (n : NodeId). Some n) h.3.2) in
-    ap (λ (o : Option NodeId). cell_frames shape (left_by shape cell left o) cell + 1) h.1
-    ∙ subst (λ c. cell_frames shape (taking shape cell left h.0.0) c + 1 ≡ cell_frames shape left c) on (sym (cell_frames-here shape cell left h.0.0 below (gives_frames shape cell left h.0.0 h.2))))
-    (find_cases test (cell_nodes shape cell))
+one_cell_search : (layout : Layout) (cell : ℕ) (left : Left) → 0 < cell_frames layout left cell
+    → cell_frames layout (after_search layout cell (cell_nodes layout cell) left) cell + 1 ≡ cell_frames layout left cell
+one_cell_search layout cell left some = ⊎_elim
+    (λ (h : NonePass test (cell_nodes layout cell)). let none = cell_none layout left cell h in absurd (omega arith))
+    (λ (h : OnePasses test (cell_nodes layout cell)).
+    let below : h.0.0 < layout.nodes = All-contains (λ (n : NodeId). n.0 < layout.nodes) (cell_nodes layout cell) h.0 (cell_nodes-below layout cell) h.3 in
+    let on = cell_nodes-on layout cell h.3.0 h.0 (slice_get-get_or (cell_nodes layout cell) h.3.0 h.0 h.3.1 ∙ ap (λ (n : NodeId). Some n) h.3.2) in
+    ap (λ (o : Option NodeId). cell_frames layout (left_by layout cell left o) cell + 1) h.1
+    ∙ subst (λ c. cell_frames layout (taking layout cell left h.0.0) c + 1 ≡ cell_frames layout left c) on (sym (cell_frames-here layout cell left h.0.0 below (gives_frames layout cell left h.0.0 h.2))))
+    (find_cases test (cell_nodes layout cell))
   where
     test : NodeId → Bool
-    test n = node_gives shape cell left n.0
+    test n = node_gives layout cell left n.0
 
-pub cell_searches_take : (shape : Shape) (cell : ℕ) (left : Left) (k : ℕ) → k ≤ cell_frames shape left cell
-    → cell_frames shape (after_searches shape cell (cell_nodes shape cell) k left) cell + k ≡ cell_frames shape left cell
-cell_searches_take shape cell left zero few = omega arith
-cell_searches_take shape cell left (suc k) few =
-    let before = cell_searches_take shape cell left k (omega arith) in
-    let more = one_cell_search shape cell (after_searches shape cell (cell_nodes shape cell) k left) (omega arith) in omega arith
+pub cell_searches_take : (layout : Layout) (cell : ℕ) (left : Left) (k : ℕ) → k ≤ cell_frames layout left cell
+    → cell_frames layout (after_searches layout cell (cell_nodes layout cell) k left) cell + k ≡ cell_frames layout left cell
+cell_searches_take layout cell left zero few = omega arith
+cell_searches_take layout cell left (suc k) few =
+    let before = cell_searches_take layout cell left k (omega arith) in
+    let more = one_cell_search layout cell (after_searches layout cell (cell_nodes layout cell) k left) (omega arith) in omega arith

@@ -6,5 +6,6 @@ pub mod OrderLemmas
 pub mod LeftLemmas
 pub mod BootLemmas
 pub mod AloneLemmas
+pub mod GainLemmas
 pub mod NextLemmas
 pub mod CellLemmas

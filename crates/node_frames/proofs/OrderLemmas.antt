@@ -1,8 +1,8 @@
--- The nodes of a group, one more at a time, and each node of the order is one of the shape's.
+-- The nodes of a group, one more at a time, and each node of the order is one of the layout's.
 use Rattle.std.proofs.Common.{◌≡◌, ℕ, zero, suc, ◌+◌, ◌<◌, ◌≤◌, Bool, true, false, if◌then◌else◌, List, [], ◌∷◌, ◌++◌, refl, sym, ap, ◌∙◌, arith, add-one, append_assoc, append-nil}
 use Rattle.std.specs.Prelude.{filter, All}
 use Rattle.std.proofs.lemmas.List.Elements.{filter-append, All-nil, All-push, All-filter, All-cons, All-append}
-use Rattle.base_words.specs.declared.frame.Shape.{Shape}
+use Rattle.node_frames.specs.Layout.{Layout}
 use Rattle.base_words.specs.declared.ids.NodeId.{NodeId}
 use Rattle.node_frames.specs.Places.{AreNodes}
 use Rattle.node_frames.specs.BootOrder.{nodes_below, boot_nodes}
@@ -35,11 +35,11 @@ pub nodes_below-below : (n m : ℕ) → n ≤ m → All (Below m) (nodes_below n
 nodes_below-below zero m le = All-nil (Below m)
 nodes_below-below (suc n) m le = All-push (Below m) (nodes_below n) (record { 0 = n }) (nodes_below-below n m (omega arith)) (omega arith)
 
-group_below : (group : Group) (shape : Shape) (home : ℕ) → All (Below shape.nodes) (group_nodes group shape home)
-group_below group shape home = All-filter (is_in group shape home) (Below shape.nodes) (nodes_below shape.nodes) (nodes_below-below shape.nodes shape.nodes (omega arith))
+group_below : (group : Group) (layout : Layout) (home : ℕ) → All (Below layout.nodes) (group_nodes group layout home)
+group_below group layout home = All-filter (is_in group layout home) (Below layout.nodes) (nodes_below layout.nodes) (nodes_below-below layout.nodes layout.nodes (omega arith))
 
--- each node of the order is one of the shape's
-pub boot_nodes-below : (shape : Shape) (home : NodeId) → home.0 < shape.nodes → AreNodes shape (boot_nodes shape home)
-boot_nodes-below shape home within =
-    All-cons (Below shape.nodes) home (group_nodes SameCell shape home.0 ++ group_nodes OtherCells shape home.0) within
-    (All-append (Below shape.nodes) (group_nodes SameCell shape home.0) (group_nodes OtherCells shape home.0) (group_below SameCell shape home.0) (group_below OtherCells shape home.0))
+-- each node of the order is one of the layout's
+pub boot_nodes-below : (layout : Layout) (home : NodeId) → home.0 < layout.nodes → AreNodes layout (boot_nodes layout home)
+boot_nodes-below layout home within =
+    All-cons (Below layout.nodes) home (group_nodes SameCell layout home.0 ++ group_nodes OtherCells layout home.0) within
+    (All-append (Below layout.nodes) (group_nodes SameCell layout home.0) (group_nodes OtherCells layout home.0) (group_below SameCell layout home.0) (group_below OtherCells layout home.0))

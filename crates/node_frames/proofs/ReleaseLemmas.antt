@@ -2,7 +2,7 @@
 use Rattle.std.proofs.Common.{◌≡◌, ◌≢◌, ℕ, ◌+◌, ◌<◌, ◌==◌, Bool, true, true≢false, Some, ap, subst, sym, ◌∙◌, arith, length, eq-eqb}
 use Rattle.std.specs.Prelude.{slice_get, not}
 use Rattle.std.proofs.lemmas.Option.{get_or_from_slice_get, slice_get_within}
-use Rattle.base_words.specs.declared.frame.Shape.{Shape}
+use Rattle.node_frames.specs.Layout.{Layout}
 use Rattle.base_words.specs.declared.ids.CellId.{CellId}
 use Rattle.frame_words.specs.FrameWords.{frame_word, cell_word}
 use Rattle.frame_words.specs.Views.{held}
@@ -13,12 +13,12 @@ use Rattle.frame_words.specs.declared.view.StepKind.{StepKind}
 use Rattle.frame_words.proofs.Bags.{without_else}
 use Rattle.node_frames.specs.Places.{cell_of_node, FitsShape}
 
-pub cell_is : (shape : Shape) (node : ℕ) (cell : CellId) → slice_get shape.cells node ≡ Some cell → cell_of_node shape node ≡ cell.0
-cell_is shape node cell is = ap (λ (c : CellId). c.0) (get_or_from_slice_get shape.cells node cell (record { 0 = 0 }) is)
+pub cell_is : (layout : Layout) (node : ℕ) (cell : CellId) → slice_get layout.cells node ≡ Some cell → cell_of_node layout node ≡ cell.0
+cell_is layout node cell is = ap (λ (c : CellId). c.0) (get_or_from_slice_get layout.cells node cell (record { 0 = 0 }) is)
 
-pub cell_low : (table : MadeTable) (shape : Shape) (node : ℕ) (cell : CellId) → FitsShape table shape → slice_get shape.cells node ≡ Some cell → cell.0 < 8
-cell_low table shape node cell fits is =
-    let lent : cell.0 < length table.terms.lends = subst (λ (c : CellId). c.0 < length table.terms.lends) (get_or_from_slice_get shape.cells node cell cell is) (fits.cells node cell (slice_get_within shape.cells node cell is)) in
+pub cell_low : (table : MadeTable) (layout : Layout) (node : ℕ) (cell : CellId) → FitsShape table layout → slice_get layout.cells node ≡ Some cell → cell.0 < 8
+cell_low table layout node cell fits is =
+    let lent : cell.0 < length table.terms.lends = subst (λ (c : CellId). c.0 < length table.terms.lends) (get_or_from_slice_get layout.cells node cell cell is) (fits.cells node cell (slice_get_within layout.cells node cell is)) in
     let few = table.terms.few_cells in omega arith
 
 -- giving back a frame ends no loan

@@ -2,7 +2,7 @@
 use Rattle.std.proofs.Common.{◌≡◌, ◌≢◌, ℕ, ◌+◌, ◌*◌, ◌/◌, ◌<◌, ◌≤◌, ◌==◌, if◌then◌else◌, Bool, true, false, true≢false, inl, inr, ⊎_elim, List, [], ◌∷◌, ◌++◌, slice_index, refl, sym, ap, ◌∙◌, subst, arith, append_assoc, eq-eqb, ne_eqb, suc-mul, add-one}
 use Rattle.std.proofs.Math.Nat.{div-mul-le_self, lt-div-mul-add, le-div_iff_mul-le}
 use Rattle.std.proofs.lemmas.Nat.{div_below}
-use Rattle.base_words.specs.declared.frame.Shape.{Shape}
+use Rattle.node_frames.specs.Layout.{Layout}
 use Rattle.frame_words.specs.FrameWords.{cell_word, frame_word}
 use Rattle.frame_words.specs.Views.{hold, times, cell_loans, look, held, seeing, holding, dropping}
 use Rattle.frame_words.specs.Taking.{Takes, GivesUp}
@@ -33,12 +33,12 @@ range_on per node f some low high =
     let below : node ≤ f / per = (le-div_iff_mul-le {k = per} {x = node} {y = f} some).1 low in omega arith
 
 -- the view that pays nothing for a frame of the home cell, and a loan for another
-pub paying-home : (shape : Shape) (home node : ℕ) (v : View) → cell_of_node shape node ≡ home → paying shape home node v ≡ v
-paying-home shape home node v inside = ap (λ (b : Bool). if b then v else holding v (cell_word (cell_of_node shape node)) 0) (eq-eqb (cell_of_node shape node) home inside)
+pub paying-home : (layout : Layout) (home node : ℕ) (v : View) → cell_of_node layout node ≡ home → paying layout home node v ≡ v
+paying-home layout home node v inside = ap (λ (b : Bool). if b then v else holding v (cell_word (cell_of_node layout node)) 0) (eq-eqb (cell_of_node layout node) home inside)
 
-pub paying-outside : (shape : Shape) (home node cell : ℕ) (v : View) → cell_of_node shape node ≡ cell → cell ≢ home → paying shape home node v ≡ holding v (cell_word cell) 0
-paying-outside shape home node cell v is outside =
-    ap (λ (b : Bool). if b then v else holding v (cell_word (cell_of_node shape node)) 0) (ne_eqb (cell_of_node shape node) home (λ e. outside (sym is ∙ e)))
+pub paying-outside : (layout : Layout) (home node cell : ℕ) (v : View) → cell_of_node layout node ≡ cell → cell ≢ home → paying layout home node v ≡ holding v (cell_word cell) 0
+paying-outside layout home node cell v is outside =
+    ap (λ (b : Bool). if b then v else holding v (cell_word (cell_of_node layout node)) 0) (ne_eqb (cell_of_node layout node) home (λ e. outside (sym is ∙ e)))
     ∙ ap (λ c. holding v (cell_word c) 0) is
 
 -- a loan is no hold of a frame
@@ -49,49 +49,49 @@ own_paid v c f low own = ⊎_elim
     own
 
 -- the loan that a frame outside home takes
-abbrev Paid : Shape → ℕ → ℕ → View → View → Type 0
-Paid shape home node v w = IsOutside shape home node → cell_loans w (cell_of_node shape node) ≡ cell_loans v (cell_of_node shape node) + 1
+abbrev Paid : Layout → ℕ → ℕ → View → View → Type 0
+Paid layout home node v w = IsOutside layout home node → cell_loans w (cell_of_node layout node) ≡ cell_loans v (cell_of_node layout node) + 1
 
 -- a loan that is left to a view that is alone
-abbrev Room : Shape → List ℕ → ℕ → ℕ → View → Type 0
-Room shape lends home node v = v.alone ≡ true → IsOutside shape home node → cell_loans v (cell_of_node shape node) < slice_index lends (cell_of_node shape node)
+abbrev Room : Layout → List ℕ → ℕ → ℕ → View → Type 0
+Room layout lends home node v = v.alone ≡ true → IsOutside layout home node → cell_loans v (cell_of_node layout node) < slice_index lends (cell_of_node layout node)
 
-paid_outside : (shape : Shape) (home node cell n g : ℕ) (v w : View) (tail : List Look) → cell < 8 → cell_of_node shape node ≡ cell → cell ≢ home
-    → Takes (looked (paying shape home node v) tail) (frame_word n) g w → Paid shape home node v w
-paid_outside shape home node cell n g v w tail low is outside t _ =
-    let base = paying-outside shape home node cell v is outside in
+paid_outside : (layout : Layout) (home node cell n g : ℕ) (v w : View) (tail : List Look) → cell < 8 → cell_of_node layout node ≡ cell → cell ≢ home
+    → Takes (looked (paying layout home node v) tail) (frame_word n) g w → Paid layout home node v w
+paid_outside layout home node cell n g v w tail low is outside t _ =
+    let base = paying-outside layout home node cell v is outside in
     let t' = subst (λ (u : View). Takes (looked u tail) (frame_word n) g w) base t in
     subst (λ c. cell_loans w c ≡ cell_loans v c + 1) (sym is)
     (ap (held cell) t'.after ∙ times-else (n + 8) cell g (hold cell 0 ∷ v.holds) (λ (h : cell ≡ n + 8). omega arith) ∙ times-here cell 0 v.holds)
 
 -- the scan's frame is the node's
-pub gives_frame : (shape : Shape) (lends : List ℕ) (home node first last n g : ℕ) (v m w : View) (tail : List Look) → 0 < shape.frames → first ≡ node * shape.frames → last ≡ first + shape.frames
-    → GainNothing tail → m ≡ looked (paying shape home node v) tail → (v.alone ≡ true → (frame : ℕ) → first ≤ frame → frame < n → IsOwn v (frame_word frame))
-    → ((more : List Look) → Takes (looked (paying shape home node v) more) (frame_word n) g w → Paid shape home node v w) → Room shape lends home node v → ScansTo first last n g m w → GivesFrame shape lends home node n g v w
-gives_frame shape lends home node first last n g v m w tail some from to nothing after own paid below s = record {
+pub gives_frame : (layout : Layout) (lends : List ℕ) (home node first last n g : ℕ) (v m w : View) (tail : List Look) → 0 < layout.frames → first ≡ node * layout.frames → last ≡ first + layout.frames
+    → GainNothing tail → m ≡ looked (paying layout home node v) tail → (v.alone ≡ true → (frame : ℕ) → first ≤ frame → frame < n → IsOwn v (frame_word frame))
+    → ((more : List Look) → Takes (looked (paying layout home node v) more) (frame_word n) g w → Paid layout home node v w) → Room layout lends home node v → ScansTo first last n g m w → GivesFrame layout lends home node n g v w
+gives_frame layout lends home node first last n g v m w tail some from to nothing after own paid below s = record {
   tail = tail ++ s.tail;
   nothing = GainNothing-append tail s.tail nothing (loads_gain_nothing s.tail s.loads);
-  on = range_on shape.frames node n some (let l = s.within.0 in omega arith) (let h = s.within.1 in omega arith);
-  lower = λ frame below on. let r = on_range shape.frames node frame some on in Refuses-behind tail s.tail (frame_word frame) (s.lower frame (omega arith) below);
-  own = λ alone frame below on. let r = on_range shape.frames node frame some on in own alone frame (omega arith) below;
+  on = range_on layout.frames node n some (let l = s.within.0 in omega arith) (let h = s.within.1 in omega arith);
+  lower = λ frame below on. let r = on_range layout.frames node frame some on in Refuses-behind tail s.tail (frame_word frame) (s.lower frame (omega arith) below);
+  own = λ alone frame below on. let r = on_range layout.frames node frame some on in own alone frame (omega arith) below;
   took = took;
   paid = paid (tail ++ s.tail) took;
   below = below;
 }
   where
-    took : Takes (looked (paying shape home node v) (tail ++ s.tail)) (frame_word n) g w
-    took = subst (λ (u : View). Takes u (frame_word n) g w) (ap (λ (u : View). looked u s.tail) after ∙ looked-looked (paying shape home node v) tail s.tail) s.took
+    took : Takes (looked (paying layout home node v) (tail ++ s.tail)) (frame_word n) g w
+    took = subst (λ (u : View). Takes u (frame_word n) g w) (ap (λ (u : View). looked u s.tail) after ∙ looked-looked (paying layout home node v) tail s.tail) s.took
 
 -- none of the home cell's node
-pub gives_none_inside : (shape : Shape) (lends : List ℕ) (home node first last : ℕ) (v w : View) → 0 < shape.frames → first ≡ node * shape.frames → last ≡ first + shape.frames
-    → ScansAll first last v w → GivesNone shape lends home node AllHeld v w
-gives_none_inside shape lends home node first last v w some from to s = record {
+pub gives_none_inside : (layout : Layout) (lends : List ℕ) (home node first last : ℕ) (v w : View) → 0 < layout.frames → first ≡ node * layout.frames → last ≡ first + layout.frames
+    → ScansAll first last v w → GivesNone layout lends home node AllHeld v w
+gives_none_inside layout lends home node first last v w some from to s = record {
   tail = s.tail;
   nothing = loads_gain_nothing s.tail s.loads;
   even = λ cell. loads_borrow_nothing cell s.tail s.loads;
   after = s.after;
-  shows = λ frame on. let r = on_range shape.frames node frame some on in s.refused frame (omega arith) (omega arith);
-  own = λ alone frame on. let r = on_range shape.frames node frame some on in s.own alone frame (omega arith) (omega arith);
+  shows = λ frame on. let r = on_range layout.frames node frame some on in s.refused frame (omega arith) (omega arith);
+  own = λ alone frame on. let r = on_range layout.frames node frame some on in s.own alone frame (omega arith) (omega arith);
 }
 
 -- the looks of a borrow that answers Lent
@@ -102,19 +102,19 @@ lent_adds : (v : View) (c most : ℕ) (w : View) (l : Lends v c most w) → w �
 lent_adds v c most w l = l.after ∙ ap (λ ls. record v { holds = hold c 0 ∷ v.holds; looks = ls }) (append_assoc v.looks (look Load c l.seen ∷ []) (look Borrow c l.seen ∷ []))
 
 -- a frame with a loan
-pub gives_frame_outside : (shape : Shape) (lends : List ℕ) (home node cell first last n g : ℕ) (v m w : View) → 0 < shape.frames → first ≡ node * shape.frames → last ≡ first + shape.frames
-    → cell < 8 → cell_of_node shape node ≡ cell → cell ≢ home → Lends v cell (slice_index lends cell) m → ScansTo first last n g m w → GivesFrame shape lends home node n g v w
-gives_frame_outside shape lends home node cell first last n g v m w some from to low is outside l s =
-    gives_frame shape lends home node first last n g v m w (lending cell l.seen) some from to (refl, (refl, tt))
-    (lent_adds v cell (slice_index lends cell) m l ∙ ap (λ (u : View). looked u (lending cell l.seen)) (sym (paying-outside shape home node cell v is outside)))
+pub gives_frame_outside : (layout : Layout) (lends : List ℕ) (home node cell first last n g : ℕ) (v m w : View) → 0 < layout.frames → first ≡ node * layout.frames → last ≡ first + layout.frames
+    → cell < 8 → cell_of_node layout node ≡ cell → cell ≢ home → Lends v cell (slice_index lends cell) m → ScansTo first last n g m w → GivesFrame layout lends home node n g v w
+gives_frame_outside layout lends home node cell first last n g v m w some from to low is outside l s =
+    gives_frame layout lends home node first last n g v m w (lending cell l.seen) some from to (refl, (refl, tt))
+    (lent_adds v cell (slice_index lends cell) m l ∙ ap (λ (u : View). looked u (lending cell l.seen)) (sym (paying-outside layout home node cell v is outside)))
     (λ alone frame above below. own_paid v cell frame low (subst (λ (u : View). u.alone ≡ true → IsOwn u (frame_word frame)) (lent_adds v cell (slice_index lends cell) m l) (λ a. s.own a frame above below) alone))
-    (λ more. paid_outside shape home node cell n g v w more low is outside)
+    (λ more. paid_outside layout home node cell n g v w more low is outside)
     (λ alone _. subst (λ c. cell_loans v c < slice_index lends c) (sym is) (let own = l.own alone in let below = l.below in omega arith)) s
 
-pub gives_frame_inside : (shape : Shape) (lends : List ℕ) (home node first last n g : ℕ) (v w : View) → 0 < shape.frames → first ≡ node * shape.frames → last ≡ first + shape.frames
-    → cell_of_node shape node ≡ home → ScansTo first last n g v w → GivesFrame shape lends home node n g v w
-gives_frame_inside shape lends home node first last n g v w some from to inside s =
-    gives_frame shape lends home node first last n g v v w [] some from to tt (looked-nil v ∙ ap (λ (u : View). looked u []) (sym (paying-home shape home node v inside))) s.own (λ more t outside. absurd (outside inside)) (λ alone outside. absurd (outside inside)) s
+pub gives_frame_inside : (layout : Layout) (lends : List ℕ) (home node first last n g : ℕ) (v w : View) → 0 < layout.frames → first ≡ node * layout.frames → last ≡ first + layout.frames
+    → cell_of_node layout node ≡ home → ScansTo first last n g v w → GivesFrame layout lends home node n g v w
+gives_frame_inside layout lends home node first last n g v w some from to inside s =
+    gives_frame layout lends home node first last n g v v w [] some from to tt (looked-nil v ∙ ap (λ (u : View). looked u []) (sym (paying-home layout home node v inside))) s.own (λ more t outside. absurd (outside inside)) (λ alone outside. absurd (outside inside)) s
 
 -- a loan that is repaid leaves the view as it was, but for the looks
 repaid : (v : View) (c seen n : ℕ) (tail : List Look) → dropping (seeing (looked (looked (holding v c 0) (lending c seen)) tail) Repay c n) c ≡ looked v ((lending c seen ++ tail) ++ look Repay c n ∷ [])
@@ -134,25 +134,25 @@ even_around x c seen n tail even =
     ∙ evens (c == x) (borrows_of x tail) (repays_of x tail) even
     ∙ sym (repays_of-append x (lending c seen ++ tail) (look Repay c n ∷ []) ∙ ap (λ k. k + repays_of x (look Repay c n ∷ [])) (repays_of-append x (lending c seen) tail))
 
-pub gives_none_outside : (shape : Shape) (lends : List ℕ) (home node cell most first last : ℕ) (v m u w : View) → 0 < shape.frames → first ≡ node * shape.frames → last ≡ first + shape.frames
-    → cell < 8 → Lends v cell most m → ScansAll first last m u → GivesUp u Repay cell w → GivesNone shape lends home node AllHeld v w
-gives_none_outside shape lends home node cell most first last v m u w some from to low l s g =
+pub gives_none_outside : (layout : Layout) (lends : List ℕ) (home node cell most first last : ℕ) (v m u w : View) → 0 < layout.frames → first ≡ node * layout.frames → last ≡ first + layout.frames
+    → cell < 8 → Lends v cell most m → ScansAll first last m u → GivesUp u Repay cell w → GivesNone layout lends home node AllHeld v w
+gives_none_outside layout lends home node cell most first last v m u w some from to low l s g =
     let is : u ≡ looked (looked (holding v cell 0) (lending cell l.seen)) s.tail = s.after ∙ ap (λ (x : View). looked x s.tail) (lent_adds v cell most m l) in record {
       tail = (lending cell l.seen ++ s.tail) ++ look Repay cell g.seen ∷ [];
       nothing = GainNothing-append (lending cell l.seen ++ s.tail) (look Repay cell g.seen ∷ []) (refl, (refl, loads_gain_nothing s.tail s.loads)) (refl, tt);
       even = λ x. even_around x cell l.seen g.seen s.tail (loads_borrow_nothing x s.tail s.loads);
       after = g.after ∙ ap (λ (x : View). dropping (seeing x Repay cell g.seen) cell) is ∙ repaid v cell l.seen g.seen s.tail;
-      shows = λ frame on. let r = on_range shape.frames node frame some on in
+      shows = λ frame on. let r = on_range layout.frames node frame some on in
           Refuses-longer (lending cell l.seen ++ s.tail) (look Repay cell g.seen ∷ []) (frame_word frame)
           (Refuses-behind (lending cell l.seen) s.tail (frame_word frame) (s.refused frame (omega arith) (omega arith)));
-      own = λ alone frame on. let r = on_range shape.frames node frame some on in
+      own = λ alone frame on. let r = on_range layout.frames node frame some on in
           own_paid v cell frame low (subst (λ (x : View). x.alone ≡ true → IsOwn x (frame_word frame)) (lent_adds v cell most m l) (λ a. s.own a frame (omega arith) (omega arith)) alone);
     }
 
 -- a cell that gives no loan
-pub gives_none_limit : (shape : Shape) (lends : List ℕ) (home node cell seen : ℕ) (v w : View) → cell_of_node shape node ≡ cell → cell ≢ home
-    → FindsLimit v cell (slice_index lends cell) seen w → GivesNone shape lends home node (AtLimit seen) v w
-gives_none_limit shape lends home node cell seen v w is outside f =
+pub gives_none_limit : (layout : Layout) (lends : List ℕ) (home node cell seen : ℕ) (v w : View) → cell_of_node layout node ≡ cell → cell ≢ home
+    → FindsLimit v cell (slice_index lends cell) seen w → GivesNone layout lends home node (AtLimit seen) v w
+gives_none_limit layout lends home node cell seen v w is outside f =
     let a = limit_adds v cell (slice_index lends cell) seen w f in record {
       tail = look Load cell seen ∷ [];
       nothing = (refl, tt);
@@ -162,9 +162,9 @@ gives_none_limit shape lends home node cell seen v w is outside f =
       own = λ alone. subst (λ c. cell_loans v c ≡ slice_index lends c) (sym is) (f.own alone ∙ f.full);
     }
 
-pub gives_none_lost : (shape : Shape) (lends : List ℕ) (home node cell seen : ℕ) (v w : View) → cell_of_node shape node ≡ cell → cell ≢ home
-    → BorrowedBy v cell (slice_index lends cell) (lent.Lost seen) w → GivesNone shape lends home node (Lost seen) v w
-gives_none_lost shape lends home node cell seen v w is outside f =
+pub gives_none_lost : (layout : Layout) (lends : List ℕ) (home node cell seen : ℕ) (v w : View) → cell_of_node layout node ≡ cell → cell ≢ home
+    → BorrowedBy v cell (slice_index lends cell) (lent.Lost seen) w → GivesNone layout lends home node (Lost seen) v w
+gives_none_lost layout lends home node cell seen v w is outside f =
     let a = lost_adds v cell (slice_index lends cell) seen w f in
     let tail : List Look = look Load cell f.0 ∷ look Load cell seen ∷ [] in record {
       tail = tail;

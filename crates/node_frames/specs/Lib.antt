@@ -1,3 +1,4 @@
+pub mod Layout
 pub mod Places
 pub mod Entries
 pub mod Searches

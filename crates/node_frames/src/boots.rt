@@ -4,6 +4,7 @@ ghost use Rattle.frame_words.specs.Holders.{IsMade};
 ghost use Rattle.node_frames.specs.Places.{FitsShape};
 ghost use Rattle.node_frames.specs.BootOrder.{boot_nodes};
 ghost use Rattle.node_frames.specs.Left.{left_of, has, after_searches};
+ghost use Rattle.node_frames.specs.Layout.{layout_of};
 
 use crate::{FindFault, find};
 use base_words::{CellId, NodeId, NodeList, Shape};
@@ -22,15 +23,15 @@ pub(crate) fn fill(
     pages: u32,
 ) -> Result<u32, AllocError>
     requires made { IsMade table.now holder.old }
-    requires fits { FitsShape table.now shape.now }
+    requires fits { FitsShape table.now (layout_of shape.now) }
     requires start { start.0 < shape.now.nodes }
-    requires order { order.now ≡ boot_nodes shape.now start }
+    requires order { order.now ≡ boot_nodes (layout_of shape.now) start }
     requires alone { holder.old.view.alone ≡ true }
-    ensures most { let left = left_of shape.now table.now.terms.lends holder.old.view in
-        IfOk result (λ taken. taken ≡ min pages (has shape.now home.0 left)) }
+    ensures most { let left = left_of (layout_of shape.now) table.now.terms.lends holder.old.view in
+        IfOk result (λ taken. taken ≡ min pages (has (layout_of shape.now) home.0 left)) }
     ensures left { let lends = table.now.terms.lends in
-        IfOk result (λ taken. left_of shape.now lends holder.new.view
-        ≡ after_searches shape.now home.0 order.now taken (left_of shape.now lends holder.old.view)) }
+        IfOk result (λ taken. left_of (layout_of shape.now) lends holder.new.view
+        ≡ after_searches (layout_of shape.now) home.0 order.now taken (left_of (layout_of shape.now) lends holder.old.view)) }
     ensures alone { IfOk result (λ taken. holder.new.view.alone ≡ true) }
     ensures same { holder.new.table ≡ holder.old.table }
 {

@@ -14,8 +14,9 @@ mod tests;
 
 pub use answers::{FindFault, Shown, ShownList};
 pub use law::{
-    alone_finds_next, boot_order_has_each_node, cell_frames_count_the_cache, first_holder_has_all,
-    has_counts_the_frames_to_come, searches_take_what_is_left,
+    a_nodes_frames_are_a_range, alone_finds_next, alone_gains_the_lowest, boot_order_has_each_node,
+    cell_frames_count_the_cache, first_holder_has_all, has_counts_the_frames_to_come,
+    searches_take_what_is_left,
 };
 pub use order::boot_order;
 pub use search::{find, release};

@@ -8,6 +8,7 @@ ghost use Rattle.frame_words.specs.declared.view.StepKind.TheVariants.{Repay};
 ghost use Rattle.frame_words.specs.Refusals.{AddsRefusal};
 ghost use Rattle.node_frames.specs.Places.{cell_of_node, FitsShape};
 ghost use Rattle.node_frames.specs.Scans.{ScannedBy, SoughtBy};
+ghost use Rattle.node_frames.specs.Layout.{layout_of};
 
 use crate::answers::Shown;
 use crate::taken::Taken;
@@ -51,7 +52,7 @@ fn scan(table: &FrameTable, holder: &mut Holder, first: u32, last: u32) -> Optio
 
 // The frames of a node: from the first to before the last.
 fn frames_of(table: &FrameTable, shape: &Shape, node: NodeId) -> (u32, u32)
-    requires fits { FitsShape table.now shape.now }
+    requires fits { FitsShape table.now (layout_of shape.now) }
     requires node { node.0 < shape.now.nodes }
     ensures first { result.0 ≡ node.0 * shape.now.frames }
     ensures last { result.1 ≡ result.0 + shape.now.frames }
@@ -70,10 +71,10 @@ fn seek_inside(
     home: CellId,
 ) -> Result<Taken, Shown>
     requires made { IsMade table.now holder.old }
-    requires fits { FitsShape table.now shape.now }
+    requires fits { FitsShape table.now (layout_of shape.now) }
     requires node { node.0 < shape.now.nodes }
-    requires inside { cell_of_node shape.now node.0 ≡ home.0 }
-    ensures sought { SoughtBy shape.now table.now.terms.lends home.0 node.0 holder.old.view result holder.new.view }
+    requires inside { cell_of_node (layout_of shape.now) node.0 ≡ home.0 }
+    ensures sought { SoughtBy (layout_of shape.now) table.now.terms.lends home.0 node.0 holder.old.view result holder.new.view }
     ensures same { holder.new.table ≡ holder.old.table }
 {
     let _home = home;
@@ -107,11 +108,11 @@ fn seek_outside(
     cell: CellId,
 ) -> Result<Taken, Shown>
     requires made { IsMade table.now holder.old }
-    requires fits { FitsShape table.now shape.now }
+    requires fits { FitsShape table.now (layout_of shape.now) }
     requires node { node.0 < shape.now.nodes }
-    requires outside { (cell_of_node shape.now node.0 ≡ cell.0) × (cell.0 ≢ home.0) }
+    requires outside { (cell_of_node (layout_of shape.now) node.0 ≡ cell.0) × (cell.0 ≢ home.0) }
     requires lends { cell.0 < length table.now.terms.lends }
-    ensures sought { SoughtBy shape.now table.now.terms.lends home.0 node.0 holder.old.view result holder.new.view }
+    ensures sought { SoughtBy (layout_of shape.now) table.now.terms.lends home.0 node.0 holder.old.view result holder.new.view }
     ensures same { holder.new.table ≡ holder.old.table }
 {
     let _home = home;
@@ -135,9 +136,9 @@ pub(crate) fn seek(
     home: CellId,
 ) -> Result<Taken, Shown>
     requires made { IsMade table.now holder.old }
-    requires fits { FitsShape table.now shape.now }
+    requires fits { FitsShape table.now (layout_of shape.now) }
     requires node { node.0 < shape.now.nodes }
-    ensures sought { SoughtBy shape.now table.now.terms.lends home.0 node.0 holder.old.view result holder.new.view }
+    ensures sought { SoughtBy (layout_of shape.now) table.now.terms.lends home.0 node.0 holder.old.view result holder.new.view }
     ensures same { holder.new.table ≡ holder.old.table }
 {
     let cell = shape.cells.as_slice()[node.0 as usize];

@@ -4,6 +4,7 @@ ghost use Rattle.frame_words.specs.Views.{frame_holds, cell_loans};
 ghost use Rattle.frame_words.specs.Holders.{IsMade};
 ghost use Rattle.node_frames.specs.Places.{IsOutside, cell_of_node, FitsShape, AreNodes};
 ghost use Rattle.node_frames.specs.Searches.{Finds, RefusedBy, Releases};
+ghost use Rattle.node_frames.specs.Layout.{layout_of};
 
 use crate::answers::{FindFault, Shown, ShownList};
 use crate::nodes::seek;
@@ -23,14 +24,14 @@ pub fn find(
     home: CellId,
 ) -> Result<Frame, FindFault>
     requires made { IsMade table.now holder.old }
-    requires fits { FitsShape table.now shape.now }
-    requires nodes { AreNodes shape.now order.now }
+    requires fits { FitsShape table.now (layout_of shape.now) }
+    requires nodes { AreNodes (layout_of shape.now) order.now }
     ensures found { let lends = table.now.terms.lends in
-        IfOk result (λ frame. Finds shape.now lends home.0 order.now
+        IfOk result (λ frame. Finds (layout_of shape.now) lends home.0 order.now
         frame.number.0 frame.generation holder.old.view holder.new.view) }
     ensures zeroed { IfOk result (λ frame. frame.page.value ≡ replicate 4096 0) }
     ensures refused { let lends = table.now.terms.lends in
-        IfErr result (λ fault. RefusedBy shape.now lends home.0 order.now
+        IfErr result (λ fault. RefusedBy (layout_of shape.now) lends home.0 order.now
         fault holder.old.view holder.new.view) }
     ensures same { holder.new.table ≡ holder.old.table }
 {
@@ -54,12 +55,12 @@ pub fn find(
 /// Gives a frame back, and repays its loan where it lies outside the home cell.
 pub fn release(table: &FrameTable, holder: &mut Holder, shape: &Shape, home: CellId, frame: FrameNo)
     requires made { IsMade table.now holder.old }
-    requires fits { FitsShape table.now shape.now }
+    requires fits { FitsShape table.now (layout_of shape.now) }
     requires within { frame.0 < table.now.terms.frames }
     requires holds { 0 < frame_holds holder.old.view frame.0 }
     requires loan { let node = frame.0 / shape.now.frames in
-        IsOutside shape.now home.0 node → 0 < cell_loans holder.old.view (cell_of_node shape.now node) }
-    ensures released { Releases shape.now home.0 frame.0 holder.old.view holder.new.view }
+        IsOutside (layout_of shape.now) home.0 node → 0 < cell_loans holder.old.view (cell_of_node (layout_of shape.now) node) }
+    ensures released { Releases (layout_of shape.now) home.0 frame.0 holder.old.view holder.new.view }
     ensures same { holder.new.table ≡ holder.old.table }
 {
     let lender = shape.cell_of(frame);

@@ -2,6 +2,7 @@
 ghost use Rattle.std.specs.Prelude.{◌≡◌, ◌<◌, IfOk, All, length};
 ghost use Rattle.frame_words.specs.Holders.{IsMade};
 ghost use Rattle.node_frames.specs.Places.{FitsShape, AreNodes};
+ghost use Rattle.node_frames.specs.Layout.{layout_of};
 
 use crate::boots::fill;
 use crate::{FindFault, Shown, boot_order, find, release};
@@ -83,8 +84,8 @@ fn all_held(
     order: &NodeList,
 ) -> bool
     requires made { IsMade table.now holder.old }
-    requires fits { FitsShape table.now shape.now }
-    requires nodes { AreNodes shape.now order.now }
+    requires fits { FitsShape table.now (layout_of shape.now) }
+    requires nodes { AreNodes (layout_of shape.now) order.now }
     ensures { holder.new.table ≡ holder.old.table }
 {
     match find(alloc, table, holder, shape, order, HOME) {

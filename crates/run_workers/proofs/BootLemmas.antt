@@ -4,7 +4,7 @@ use Rattle.std.specs.Prelude.{slice_get, slice_index_or}
 use Rattle.atomic_table.specs.Seated.{TableId}
 use Rattle.base_words.specs.declared.ids.NodeId.{NodeId}
 use Rattle.base_words.specs.declared.frame.Frame.{Frame}
-use Rattle.elf_image.specs.declared.image.Image.{Image}
+use Rattle.run_workers.specs.declared.source.Source.{Source}
 use Rattle.shootdown.specs.Notes.{Token, Seat}
 use Rattle.shootdown.specs.Making.{AreFresh, numbered, fresh_token, fresh_seat}
 use Rattle.machine_desc.specs.declared.machine.GuestSpec.{GuestSpec}
@@ -20,27 +20,34 @@ use Rattle.isolation_law.specs.GuestState.{GuestState}
 use Rattle.isolation_law.specs.Start.{Boot}
 use Rattle.base_words.specs.declared.input.InputEntry.{InputEntry}
 use Rattle.std.proofs.lemmas.List.{length-map}
+use Rattle.std.proofs.Math.Nat.{mul-le-mul_left, mul-le-mul_right}
+use Rattle.frame_words.specs.Holders.{MadeTable}
 use Rattle.guest_core.specs.GuestView.{Monitored, IsAtStart}
+use Rattle.guest_core.specs.Holding.{FitsAround}
 use Rattle.guest_core.specs.Starting.{MayStart, booted_with}
-use Rattle.run_workers.specs.Starting.{IsBuilt, AreImages, IsStart, around_of}
+use Rattle.run_workers.specs.Starting.{IsBuilt, IsSource, AreSources, IsStart, around_of}
 use Rattle.run_workers.specs.Booting.{IsSite, IsSeat, board_of, AreSeats, IsStarted, AreBooted}
 use Rattle.run_workers.proofs.WholeLemmas.{get-index, all-get, get-there}
 use Rattle.run_workers.proofs.RunLemmas.{numbered-length}
+
+mul-le : (a b c d : ℕ) → a ≤ b → c ≤ d → a * c ≤ b * d
+mul-le a b c d l m = let x = mul-le-mul_right c l in let y = mul-le-mul_left b m in omega arith
 
 all-below : (count : ℕ) (nodes : List NodeId) → All (λ (n : NodeId). n.0 < count) nodes → AllBelow count nodes
 all-below count [] all = tt
 all-below count (n ∷ nodes) all = (all 0 n (omega arith), all-below count nodes (λ i d l. all (suc i) d (omega arith)))
 
-pub may-start : (machine : Machine) (plan : Plan) (around : Around) (image : Image) (spec : GuestSpec) (vcpus : ℕ) (frames : List Frame) → IsDescribed machine plan → IsBuilt (described_seen machine plan) → IsSite machine around.site → IsGuest machine.shape.nodes spec → length image.pages ≡ spec.pages → vcpus ≡ spec.vcpus → length frames ≡ length image.pages → MayStart around image vcpus frames
-may-start machine plan around image spec vcpus frames described built site guest pages count backed =
+pub may-start : (machine : Machine) (plan : Plan) (around : Around) (source : Source) (spec : GuestSpec) (vcpus : ℕ) (frames : List Frame) → IsDescribed machine plan → IsBuilt (described_seen machine plan) → IsSite machine around.site → IsGuest machine.shape.nodes spec → IsSource spec source → vcpus ≡ spec.vcpus → around.home ≡ spec.node → length frames ≡ length source.image.pages → MayStart around source.image vcpus frames source.disk
+may-start machine plan around source spec vcpus frames described built site guest is count home backed =
+    let pages = is.pages in
     let some = guest.some_vcpus in
     let few = guest.few_vcpus in
     let small = guest.few_pages in
     let processors = ap length site.processors in
     let most = described.few_processors in
-    let nodes : around.site.shape.nodes ≡ 1 = site.nodes ∙ built.one_node in
-    let frames-are = site.frames in
+    let few-nodes = described.few_nodes in
     let bound = described.few_frames in
+    let total : machine.shape.nodes * machine.shape.frames ≤ 8 * 4096 = mul-le machine.shape.nodes 8 machine.shape.frames 4096 few-nodes bound in
     record {
       some_vcpus = omega (arith, some, count);
       few_vcpus = omega (arith, few, count);
@@ -48,7 +55,10 @@ may-start machine plan around image spec vcpus frames described built site guest
       backed = backed;
       no_policy = (ap (λ p. p.migrate) site.policy ∙ built.no_migration, ap (λ p. p.replicate) site.policy ∙ built.no_replication);
       few_processors = omega (arith, processors, most);
-      few_frames = subst (λ n. n * around.site.shape.frames < 2 ^ 32) (sym nodes) (omega (arith, frames-are, bound));
+      few_frames = subst (λ (n : ℕ). n * around.site.shape.frames < 2 ^ 32) (sym site.nodes) (subst (λ (n : ℕ). machine.shape.nodes * n < 2 ^ 32) (sym site.frames) (omega (arith, total)));
+      at_home = subst (λ (n : ℕ). around.home.0 < n) (sym site.nodes) (subst (λ (node : NodeId). node.0 < machine.shape.nodes) (sym home) guest.home);
+      unwritten = is.unwritten;
+      blocks = is.blocks;
       on_nodes = subst (λ l. AllBelow around.site.shape.nodes l) (sym site.processors) (subst (λ n. AllBelow n machine.processors) (sym site.nodes) (all-below machine.shape.nodes machine.processors described.on_nodes));
     }
 
@@ -62,28 +72,28 @@ snoc-at P (z ∷ xs) [] x y same each last i a b e f = absurd (let m : suc (leng
 snoc-at P (z ∷ xs) (w ∷ ys) x y same each last zero a b e f = each zero a b e f
 snoc-at P (z ∷ xs) (w ∷ ys) x y same each last (suc i) a b e f = snoc-at (λ k. P (suc k)) xs ys x y (omega arith) (λ k. each (suc k)) last i a b e f
 
-pub booted-none : (d : Described) (board : TableId) → AreBooted d [] board []
-booted-none d board = record { count = refl; each = λ g guest image e f. absurd cc }
+pub booted-none : (d : Described) (board : TableId) (table : MadeTable) → AreBooted d [] board table []
+booted-none d board table = record { count = refl; each = λ g guest source e f. absurd cc }
 
-pub booted-more : (d : Described) (images : List Image) (board : TableId) (guests : List Monitored) (image : Image) (guest : Monitored) → AreBooted d images board guests → IsStarted d image board (length guests) guest → AreBooted d (images ++ image ∷ []) board (guests ++ guest ∷ [])
-booted-more d images board guests image guest are is =
+pub booted-more : (d : Described) (sources : List Source) (board : TableId) (table : MadeTable) (guests : List Monitored) (source : Source) (guest : Monitored) → AreBooted d sources board table guests → IsStarted d source board table (length guests) guest → AreBooted d (sources ++ source ∷ []) board table (guests ++ guest ∷ [])
+booted-more d sources board table guests source guest are is =
     let count = are.count in
     let more = length-append guests (guest ∷ []) in
-    let also = length-append images (image ∷ []) in record {
+    let also = length-append sources (source ∷ []) in record {
       count = omega (arith, count, more, also);
-      each = snoc-at (λ g m i. IsStarted d i board g m) guests images guest image are.count are.each is;
+      each = snoc-at (λ g m i. IsStarted d i board table g m) guests sources guest source are.count are.each is;
     }
 
--- an image among those of the description has as many pages as its guest
-pub image-pages : (specs : List GuestSpec) (images : List Image) (g : ℕ) (image : Image) (spec : GuestSpec) → AreImages specs images → slice_get images g ≡ Some image → slice_get specs g ≡ Some spec → length image.pages ≡ spec.pages
-image-pages [] images g image spec are e f = absurd cc
-image-pages (s ∷ specs) [] g image spec are e f = absurd are
-image-pages (s ∷ specs) (i ∷ images) zero image spec are e f = let p : i ≡ image = cc in let q : s ≡ spec = cc in sym (ap (λ (x : Image). length x.pages) p) ∙ are.0 ∙ ap (λ (x : GuestSpec). x.pages) q
-image-pages (s ∷ specs) (i ∷ images) (suc g) image spec are e f = image-pages specs images g image spec are.1 e f
+-- a source among those of the description is its guest's
+pub source-at : (specs : List GuestSpec) (sources : List Source) (g : ℕ) (source : Source) (spec : GuestSpec) → AreSources specs sources → slice_get sources g ≡ Some source → slice_get specs g ≡ Some spec → IsSource spec source
+source-at [] sources g source spec are e f = absurd cc
+source-at (s ∷ specs) [] g source spec are e f = absurd are
+source-at (s ∷ specs) (i ∷ sources) zero source spec are e f = let p : i ≡ source = cc in let q : s ≡ spec = cc in subst (λ (x : Source). IsSource spec x) p (subst (λ (y : GuestSpec). IsSource y i) q are.0)
+source-at (s ∷ specs) (i ∷ sources) (suc g) source spec are e f = source-at specs sources g source spec are.1 e f
 
-pub image-here : (images rest : List Image) (image : Image) → slice_get (images ++ image ∷ rest) (length images) ≡ Some image
-image-here [] rest image = refl
-image-here (i ∷ images) rest image = image-here images rest image
+pub source-here : (sources rest : List Source) (source : Source) → slice_get (sources ++ source ∷ rest) (length sources) ≡ Some source
+source-here [] rest source = refl
+source-here (i ∷ sources) rest source = source-here sources rest source
 
 -- ---- seats
 
@@ -127,36 +137,36 @@ fresh-seats count guests tokens seats fresh some =
           });
     }
 
-pub images-count : (specs : List GuestSpec) (images : List Image) → AreImages specs images → length images ≡ length specs
-images-count [] [] are = refl
-images-count [] (i ∷ images) are = absurd are
-images-count (s ∷ specs) [] are = absurd are
-images-count (s ∷ specs) (i ∷ images) are = ap suc (images-count specs images are.1)
+pub sources-count : (specs : List GuestSpec) (sources : List Source) → AreSources specs sources → length sources ≡ length specs
+sources-count [] [] are = refl
+sources-count [] (i ∷ sources) are = absurd are
+sources-count (s ∷ specs) [] are = absurd are
+sources-count (s ∷ specs) (i ∷ sources) are = ap suc (sources-count specs sources are.1)
 
--- ---- the image that comes next
+-- ---- the source that comes next
 
-pub record IsNext (machine : Machine) (images yielded : List Image) (image : Image) : Type 0 where
+pub record IsNext (machine : Machine) (sources yielded : List Source) (source : Source) : Type 0 where
   pub few : length yielded < length machine.guests
-  pub here : slice_get images (length yielded) ≡ Some image
-  pub small : length image.pages ≤ 2048
+  pub here : slice_get sources (length yielded) ≡ Some source
+  pub small : length source.image.pages ≤ 2048
 
-pub next-image : (machine : Machine) (plan : Plan) (images yielded rest now : List Image) (image : Image) → IsDescribed machine plan → AreImages machine.guests images → yielded ++ rest ≡ images → rest ≡ image ∷ now → IsNext machine images yielded image
-next-image machine plan images yielded rest now image described are all first =
-    let whole : yielded ++ image ∷ now ≡ images = ap (λ l. yielded ++ l) (sym first) ∙ all in
-    let here : slice_get images (length yielded) ≡ Some image = ap (λ l. slice_get l (length yielded)) (sym whole) ∙ image-here yielded now image in
-    let within = (get-index images (length yielded) image image here).0 in
-    let same = images-count machine.guests images are in
+pub next-source : (machine : Machine) (plan : Plan) (sources yielded rest now : List Source) (source : Source) → IsDescribed machine plan → AreSources machine.guests sources → yielded ++ rest ≡ sources → rest ≡ source ∷ now → IsNext machine sources yielded source
+next-source machine plan sources yielded rest now source described are all first =
+    let whole : yielded ++ source ∷ now ≡ sources = ap (λ l. yielded ++ l) (sym first) ∙ all in
+    let here : slice_get sources (length yielded) ≡ Some source = ap (λ l. slice_get l (length yielded)) (sym whole) ∙ source-here yielded now source in
+    let within = (get-index sources (length yielded) source source here).0 in
+    let same = sources-count machine.guests sources are in
     let few : length yielded < length machine.guests = omega arith in
     let spec = get-there machine.guests (length yielded) few in
     let guest : IsGuest machine.shape.nodes spec.0 = all-get (IsGuest machine.shape.nodes) machine.guests (length yielded) spec.0 described.guests spec.1 in
-    let pages = image-pages machine.guests images (length yielded) image spec.0 are here spec.1 in
+    let pages = (source-at machine.guests sources (length yielded) source spec.0 are here spec.1).pages in
     let most = guest.few_pages in
     record { few = few; here = here; small = omega (arith, pages, most) }
 
 -- ---- one guest at its start
 
-pub started : (machine : Machine) (plan : Plan) (around : Around) (image : Image) (spec : GuestSpec) (frames : List Frame) (input : List InputEntry) (seat : Seat) (number : ℕ) (guest : Monitored) → IsSite machine around.site → around.number.0 ≡ number → around.home ≡ spec.node → slice_get machine.guests number ≡ Some spec → slice_get plan.input number ≡ Some input → length frames ≡ length image.pages → seat.number ≡ number → IsAtStart seat.number (booted_with around image spec.vcpus frames input) seat.board guest → IsStarted (described_seen machine plan) image seat.board number guest
-started machine plan around image spec frames input seat number guest site of home spec-is input-is backed seat-is at =
+pub started : (machine : Machine) (plan : Plan) (around : Around) (source : Source) (spec : GuestSpec) (frames : List Frame) (input : List InputEntry) (seat : Seat) (table : MadeTable) (holder : TableId) (number : ℕ) (guest : Monitored) → IsSite machine around.site → around.number.0 ≡ number → around.home ≡ spec.node → slice_get machine.guests number ≡ Some spec → slice_get plan.input number ≡ Some input → length frames ≡ length source.image.pages → seat.number ≡ number → IsAtStart seat.number (booted_with around source.image spec.vcpus frames source.disk input) seat.board holder guest → holder ≡ table.id → FitsAround table (surroundings around) → IsStarted (described_seen machine plan) source seat.board table number guest
+started machine plan around source spec frames input seat table holder number guest site of home spec-is input-is backed seat-is at made fits =
     let d = described_seen machine plan in
     let lies : surroundings around ≡ around_of d number spec = λ k. record {
       guest = of k;
@@ -167,11 +177,11 @@ started machine plan around image spec frames input seat number guest site of ho
       homes = site.homes k;
       policy = site.policy k;
     } in
-    let start : IsStart d number spec image input (booted_with around image spec.vcpus frames input) = record {
+    let start : IsStart d number spec source input (booted_with around source.image spec.vcpus frames source.disk input) = record {
       around = lies;
       image_is = refl;
       vcpus = refl;
-      no_disk = refl;
+      disk_is = refl;
       input_is = refl;
       backed = length-map frames found_of ∙ backed;
     } in
@@ -179,11 +189,12 @@ started machine plan around image spec frames input seat number guest site of ho
       fresh = record {
         number_is = at.number_is ∙ seat-is;
         board_is = at.board_is;
+        table_is = record { made = at.table_is ∙ made; fits = subst (λ (b : Boot). FitsAround table b.around) (sym at.start_is) fits };
         goes_on = ap (λ (s : GuestState). s.end) at.state_is;
       };
       spec = spec;
       spec_is = spec-is;
       input = input;
       input_is = input-is;
-      start = subst (λ (b : Boot). IsStart d number spec image input b) (sym at.start_is) start;
+      start = subst (λ (b : Boot). IsStart d number spec source input b) (sym at.start_is) start;
     }

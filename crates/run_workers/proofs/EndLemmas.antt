@@ -3,6 +3,7 @@ use Rattle.std.proofs.Common.{◌≡◌, ℕ, ◌+◌, ◌<◌, List, [], ◌∷
 use Rattle.std.specs.Prelude.{slice_get}
 use Rattle.atomic_table.specs.Seated.{TableId}
 use Rattle.base_words.specs.declared.events.Event.{Event}
+use Rattle.frame_words.specs.Holders.{MadeTable}
 use Rattle.shootdown.specs.declared.view.SidedNote.{SidedNote}
 use Rattle.shootdown.specs.Notes.{Seat}
 use Rattle.isolation_law.specs.GuestState.{GuestState}
@@ -30,15 +31,15 @@ has-left guest last left seat same is journal seat-is noted sides =
     }
 
 -- the next guest's record and seat
-pub left-next : (starts : List Boot) (board : TableId) (states : List GuestState) (lefts : List GuestRecord) (seats : List Seat) (guest : Monitored) (left : GuestRecord) (seat : Seat) → AreLeft starts board 0 states lefts seats → IsGuestOf starts board (length lefts) guest → (has : HasLeft guest left seat) → AreLeft starts board 0 (states ++ has.state ∷ []) (lefts ++ left ∷ []) (seats ++ seat ∷ [])
-left-next starts board states lefts seats guest left seat are is has =
+pub left-next : (starts : List Boot) (board : TableId) (table : MadeTable) (states : List GuestState) (lefts : List GuestRecord) (seats : List Seat) (guest : Monitored) (left : GuestRecord) (seat : Seat) → AreLeft starts board 0 states lefts seats → IsGuestOf starts board table (length lefts) guest → (has : HasLeft guest left seat) → AreLeft starts board 0 (states ++ has.state ∷ []) (lefts ++ left ∷ []) (seats ++ seat ∷ [])
+left-next starts board table states lefts seats guest left seat are is has =
     let here : length lefts ≡ 0 + length lefts = omega arith in
     let leaves : Leaves guest.start board (length lefts) has.state left seat = subst (λ b. Leaves guest.start b (length lefts) has.state left seat) is.board_is (subst (λ n. Leaves guest.start guest.board n has.state left seat) is.number_is has.leaves) in
     left-more starts board 0 states lefts seats guest.start has.state left seat are (subst (λ n. slice_get starts n ≡ Some guest.start) here is.start_is) (subst (λ n. Leaves guest.start board n has.state left seat) here leaves)
 
 -- and the guests behind it
-pub rest-next : (starts : List Boot) (board : TableId) (lefts more : List GuestRecord) (left : GuestRecord) (guests : List Monitored) → more ≡ lefts ++ left ∷ [] → GuestsFrom starts board (length lefts + 1) guests → GuestsFrom starts board (length more) guests
-rest-next starts board lefts more left guests grown from =
+pub rest-next : (starts : List Boot) (board : TableId) (table : MadeTable) (lefts more : List GuestRecord) (left : GuestRecord) (guests : List Monitored) → more ≡ lefts ++ left ∷ [] → GuestsFrom starts board table (length lefts + 1) guests → GuestsFrom starts board table (length more) guests
+rest-next starts board table lefts more left guests grown from =
     let n = length-append lefts (left ∷ []) in
     let count : length lefts + 1 ≡ length more = sym (ap (λ (l : List GuestRecord). length l) grown ∙ n) in
-    subst (λ k. GuestsFrom starts board k guests) count from
+    subst (λ k. GuestsFrom starts board table k guests) count from

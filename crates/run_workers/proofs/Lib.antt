@@ -9,5 +9,6 @@ pub mod WholeLemmas
 pub mod RunLemmas
 pub mod ServingLemmas
 pub mod TopLemmas
+pub mod LotLemmas
 pub mod BootLemmas
 pub mod EndLemmas

@@ -9,6 +9,7 @@ use Rattle.base_words.specs.declared.ids.NodeId.{NodeId}
 use Rattle.base_words.specs.declared.ids.CellId.{CellId}
 use Rattle.base_words.specs.declared.ids.Ppn.{Ppn}
 use Rattle.base_words.specs.declared.moves.MoveKind.{MoveKind}
+use Rattle.frame_words.specs.Holders.{MadeTable}
 use Rattle.shootdown.specs.Notes.{Token, Seat, sided}
 use Rattle.shootdown.specs.declared.view.SidedNote.{SidedNote}
 use Rattle.isolation_law.specs.GuestState.{GuestState}
@@ -156,6 +157,6 @@ pub behind-drop : (queue : List SliceRecord) → drop 1 queue ≡ behind queue
 behind-drop [] = refl
 behind-drop (slice ∷ queue) = refl
 
-pub guests-past : (starts : List Boot) (board : TableId) (k : ℕ) (guests : List Monitored) → GuestsFrom starts board k guests → length guests ≡ 0 → length starts ≤ k
-guests-past starts board k [] from none = from
-guests-past starts board k (g ∷ guests) from none = absurd (let m : suc (length guests) ≡ 0 = none in omega arith)
+pub guests-past : (starts : List Boot) (board : TableId) (table : MadeTable) (k : ℕ) (guests : List Monitored) → GuestsFrom starts board table k guests → length guests ≡ 0 → length starts ≤ k
+guests-past starts board table k [] from none = from
+guests-past starts board table k (g ∷ guests) from none = absurd (let m : suc (length guests) ≡ 0 = none in omega arith)

@@ -4,6 +4,7 @@ use Rattle.std.specs.Prelude.{slice_get, slice_index_or, option_map}
 use Rattle.std.specs.declared.alloc.Global.{Global}
 use Rattle.atomic_table.specs.Seated.{TableId}
 use Rattle.base_words.specs.declared.events.End.TheVariants.{Budget}
+use Rattle.frame_words.specs.Holders.{MadeTable}
 use Rattle.shootdown.specs.Notes.{Token, Seat}
 use Rattle.shootdown.specs.Making.{numbered, fresh_token}
 use Rattle.isolation_law.specs.GuestState.{GuestState}
@@ -57,9 +58,9 @@ numbered-length f k (suc n) = ap suc (numbered-length f (suc k) n)
 
 -- ---- guests under their locks
 
-fresh-guests : (board : TableId) (pre : List Boot) (k : ℕ) (guests : List Monitored) → k ≡ length pre → ((i : ℕ) (g : Monitored) → slice_get guests i ≡ Some g → IsFresh board (k + i) g) → GuestsFrom (pre ++ map start_of guests) board k guests
-fresh-guests board pre k [] e fresh = let n = length-append pre [] in omega arith
-fresh-guests board pre k (g ∷ guests) e fresh =
+fresh-guests : (board : TableId) (table : MadeTable) (pre : List Boot) (k : ℕ) (guests : List Monitored) → k ≡ length pre → ((i : ℕ) (g : Monitored) → slice_get guests i ≡ Some g → IsFresh board table (k + i) g) → GuestsFrom (pre ++ map start_of guests) board table k guests
+fresh-guests board table pre k [] e fresh = let n = length-append pre [] in omega arith
+fresh-guests board table pre k (g ∷ guests) e fresh =
     let first = fresh zero g refl in
     let here : k + 0 ≡ k = omega arith in
     let longer : k + 1 ≡ length (pre ++ g.start ∷ []) = (let n = length-append pre (g.start ∷ []) in omega arith) in (
@@ -67,10 +68,11 @@ fresh-guests board pre k (g ∷ guests) e fresh =
         number_is = first.number_is ∙ here;
         start_is = at-end pre g.start (map start_of guests) k e;
         board_is = first.board_is;
+        table_is = first.table_is;
         goes_on = λ same. (let both : None ≡ Some Budget = sym first.goes_on ∙ same in absurd cc);
       },
-      subst (λ l. GuestsFrom l board (k + 1) guests) (append_assoc pre (g.start ∷ []) (map start_of guests))
-          (fresh-guests board (pre ++ g.start ∷ []) (k + 1) guests longer (λ i h at. subst (λ n. IsFresh board n h) (let n : k + suc i ≡ k + 1 + i = omega arith in n) (fresh (suc i) h at))),
+      subst (λ l. GuestsFrom l board table (k + 1) guests) (append_assoc pre (g.start ∷ []) (map start_of guests))
+          (fresh-guests board table (pre ++ g.start ∷ []) (k + 1) guests longer (λ i h at. subst (λ n. IsFresh board table n h) (let n : k + suc i ≡ k + 1 + i = omega arith in n) (fresh (suc i) h at))),
     )
   where
     at-end : (pre : List Boot) (x : Boot) (xs : List Boot) (k : ℕ) → k ≡ length pre → slice_get (pre ++ x ∷ xs) k ≡ Some x
@@ -80,8 +82,8 @@ fresh-guests board pre k (g ∷ guests) e fresh =
         here [] x xs = refl
         here (p ∷ pre) x xs = here pre x xs
 
-pub all-guests : (board : TableId) (guests : List Monitored) → ((g : ℕ) (guest : Monitored) → slice_get guests g ≡ Some guest → IsFresh board g guest) → GuestsFrom (map start_of guests) board 0 guests
-all-guests board guests fresh = fresh-guests board [] 0 guests refl (λ i g at. subst (λ n. IsFresh board n g) (let e : i ≡ 0 + i = omega arith in e) (fresh i g at))
+pub all-guests : (board : TableId) (table : MadeTable) (guests : List Monitored) → ((g : ℕ) (guest : Monitored) → slice_get guests g ≡ Some guest → IsFresh board table g guest) → GuestsFrom (map start_of guests) board table 0 guests
+all-guests board table guests fresh = fresh-guests board table [] 0 guests refl (λ i g at. subst (λ n. IsFresh board table n g) (let e : i ≡ 0 + i = omega arith in e) (fresh i g at))
 
 -- ---- workers
 

@@ -6,7 +6,8 @@ use Rattle.std.specs.declared.alloc.AllocError.{AllocError}
 use Rattle.std.proofs.lemmas.List.{length-map}
 use Rattle.atomic_table.specs.Seated.{TableId}
 use Rattle.base_words.specs.declared.input.InputEntry.{InputEntry}
-use Rattle.elf_image.specs.declared.image.Image.{Image}
+use Rattle.run_workers.specs.declared.source.Source.{Source}
+use Rattle.frame_words.specs.Holders.{MadeTable, Holding}
 use Rattle.shootdown.specs.Notes.{Token}
 use Rattle.shootdown.specs.Making.{numbered, fresh_token}
 use Rattle.isolation_law.specs.Start.{Boot}
@@ -18,7 +19,7 @@ use Rattle.machine_desc.specs.Described.{Described}
 use Rattle.machine_desc.specs.Accepted.{IsAccepted}
 use Rattle.guest_core.specs.GuestView.{Monitored}
 use Rattle.guest_core.specs.declared.records.RunRecord.{RunRecord}
-use Rattle.run_workers.specs.Starting.{IsStart, AreStarts, AreImages}
+use Rattle.run_workers.specs.Starting.{IsStart, AreStarts, AreSources}
 use Rattle.run_workers.specs.WholeRecord.{IsWhole}
 use Rattle.run_workers.specs.Working.{ItemFits, IsOn}
 use Rattle.run_workers.specs.Booting.{start_of, IsFresh, IsStarted, AreBooted, HasBooted}
@@ -37,35 +38,35 @@ same-some : {A : Type 0} (x y : A) → Some x ≡ Some y → x ≡ y
 same-some x y e = cc
 
 -- the guest of a number, as it was started
-started-at : (d : Described) (images : List Image) (board : TableId) (guests : List Monitored) (g : ℕ) (guest : Monitored) → AreBooted d images board guests → slice_get guests g ≡ Some guest → (image : Image) × (slice_get images g ≡ Some image) × IsStarted d image board g guest
-started-at d images board guests g guest are at =
+started-at : (d : Described) (sources : List Source) (board : TableId) (table : MadeTable) (guests : List Monitored) (g : ℕ) (guest : Monitored) → AreBooted d sources board table guests → slice_get guests g ≡ Some guest → (source : Source) × (slice_get sources g ≡ Some source) × IsStarted d source board table g guest
+started-at d sources board table guests g guest are at =
     let few = (get-index guests g guest guest at).0 in
     let count = are.count in
-    let image = get-there images g (omega arith) in
-    (image.0, image.1, are.each g guest image.0 at image.1)
+    let source = get-there sources g (omega arith) in
+    (source.0, source.1, are.each g guest source.0 at source.1)
 
-item-fits : (d : Described) (images : List Image) (board : TableId) (guests : List Monitored) (item : Item) → length guests ≡ length d.guests → AreBooted d images board guests → IsItem d item → ItemFits (map start_of guests) item
-item-fits d images board guests (Run p g v steps) count are is = by (slice_get d.guests g.0) refl is.of
+item-fits : (d : Described) (sources : List Source) (board : TableId) (table : MadeTable) (guests : List Monitored) (item : Item) → length guests ≡ length d.guests → AreBooted d sources board table guests → IsItem d item → ItemFits (map start_of guests) item
+item-fits d sources board table guests (Run p g v steps) count are is = by (slice_get d.guests g.0) refl is.of
   where
     by : (o : Option GuestSpec) → slice_get d.guests g.0 ≡ o → IsSomeAnd o (λ spec. v.0 < spec.vcpus) → ItemFits (map start_of guests) (Run p g v steps)
     by None e of = absurd of
     by (Some spec) e of =
         let few = (get-index d.guests g.0 spec spec e).0 in
         let guest = get-there guests g.0 (let l : g.0 < length guests = omega arith in l) in
-        let started = started-at d images board guests g.0 guest.0 are guest.1 in
+        let started = started-at d sources board table guests g.0 guest.0 are guest.1 in
         let same = same-some started.2.spec spec (sym started.2.spec_is ∙ e) in
         let vcpus : guest.0.start.vcpus ≡ spec.vcpus = started.2.start.vcpus ∙ ap (λ (s : GuestSpec). s.vcpus) same in
         record { start = guest.0.start; named = map-get start_of guests g.0 guest.0 guest.1; vcpu = subst (λ n. v.0 < n) (sym vcpus) of }
-item-fits d images board guests (Move p g page kind node) count are is = tt
-item-fits d images board guests (Fail p cell) count are is = tt
+item-fits d sources board table guests (Move p g page kind node) count are is = tt
+item-fits d sources board table guests (Fail p cell) count are is = tt
 
 item-on : (d : Described) (count : ℕ) (item : Item) → count ≡ length d.processors → IsItem d item → IsOn count item
 item-on d count (Run p g v steps) same is = subst (λ n. p.0 < n) (sym same) is.on
 item-on d count (Move p g page kind node) same is = tt
 item-on d count (Fail p cell) same is = tt
 
-pub may-run : (d : Described) (images : List Image) (guests : List Monitored) (tokens : List Token) → IsAccepted d → length images ≡ length d.guests → HasBooted d images guests tokens → MayRun guests tokens d.items
-may-run d images guests tokens accepted many booted =
+pub may-run : (d : Described) (sources : List Source) (guests : List Monitored) (tokens : List Token) (table : MadeTable) (holder : Holding) → IsAccepted d → length sources ≡ length d.guests → HasBooted d sources guests tokens table holder → MayRun guests tokens table d.items
+may-run d sources guests tokens table holder accepted many booted =
     let board = booted.board in
     let are = booted.guests_are in
     let count = are.count in
@@ -78,37 +79,37 @@ may-run d images guests tokens accepted many booted =
     record {
       few = omega arith;
       some = subst (λ n. 0 < n) (sym length-is) some;
-      guests_are = λ g guest at. subst (λ b. IsFresh b g guest) (sym board-is) (started-at d images board guests g guest are at).2.fresh;
+      guests_are = λ g guest at. subst (λ b. IsFresh b table g guest) (sym board-is) (started-at d sources board table guests g guest are at).2.fresh;
       tokens_are = booted.tokens_are ∙ (λ k. numbered (fresh_token (sym board-is k)) 0 (sym length-is k));
-      processors = λ g guest at. (let started = (started-at d images board guests g guest are at).2 in ap (λ w. length w.processors) started.start.around ∙ length-map d.processors (λ n. n.0) ∙ sym length-is);
+      processors = λ g guest at. (let started = (started-at d sources board table guests g guest are at).2 in ap (λ w. length w.processors) started.start.around ∙ length-map d.processors (λ n. n.0) ∙ sym length-is);
       few_items = omega arith;
-      places = λ i e l. item-fits d images board guests (slice_index_or d.items i e) all are (accepted.items i e l);
+      places = λ i e l. item-fits d sources board table guests (slice_index_or d.items i e) all are (accepted.items i e l);
       on = λ i e l. item-on d (length tokens) (slice_index_or d.items i e) length-is (accepted.items i e l);
     }
 
-starts-from : (d : Described) (k : ℕ) (specs : List GuestSpec) (images : List Image) (inputs : List (List InputEntry)) (guests : List Monitored) → length images ≡ length specs → length inputs ≡ length specs → length guests ≡ length specs
-    → ((i : ℕ) (spec : GuestSpec) (image : Image) (input : List InputEntry) (guest : Monitored) → slice_get specs i ≡ Some spec → slice_get images i ≡ Some image → slice_get inputs i ≡ Some input → slice_get guests i ≡ Some guest → IsStart d (k + i) spec image input guest.start)
-    → AreStarts d k specs images inputs (map start_of guests)
+starts-from : (d : Described) (k : ℕ) (specs : List GuestSpec) (sources : List Source) (inputs : List (List InputEntry)) (guests : List Monitored) → length sources ≡ length specs → length inputs ≡ length specs → length guests ≡ length specs
+    → ((i : ℕ) (spec : GuestSpec) (source : Source) (input : List InputEntry) (guest : Monitored) → slice_get specs i ≡ Some spec → slice_get sources i ≡ Some source → slice_get inputs i ≡ Some input → slice_get guests i ≡ Some guest → IsStart d (k + i) spec source input guest.start)
+    → AreStarts d k specs sources inputs (map start_of guests)
 starts-from d k [] [] [] [] a b c each = tt
 starts-from d k [] [] [] (g ∷ guests) a b c each = absurd (let m : suc (length guests) ≡ 0 = c in omega arith)
 starts-from d k [] [] (i ∷ inputs) guests a b c each = absurd (let m : suc (length inputs) ≡ 0 = b in omega arith)
-starts-from d k [] (i ∷ images) inputs guests a b c each = absurd (let m : suc (length images) ≡ 0 = a in omega arith)
+starts-from d k [] (i ∷ sources) inputs guests a b c each = absurd (let m : suc (length sources) ≡ 0 = a in omega arith)
 starts-from d k (s ∷ specs) [] inputs guests a b c each = absurd (let m : 0 ≡ suc (length specs) = a in omega arith)
-starts-from d k (s ∷ specs) (i ∷ images) [] guests a b c each = absurd (let m : 0 ≡ suc (length specs) = b in omega arith)
-starts-from d k (s ∷ specs) (i ∷ images) (n ∷ inputs) [] a b c each = absurd (let m : 0 ≡ suc (length specs) = c in omega arith)
-starts-from d k (s ∷ specs) (i ∷ images) (n ∷ inputs) (g ∷ guests) a b c each = (
+starts-from d k (s ∷ specs) (i ∷ sources) [] guests a b c each = absurd (let m : 0 ≡ suc (length specs) = b in omega arith)
+starts-from d k (s ∷ specs) (i ∷ sources) (n ∷ inputs) [] a b c each = absurd (let m : 0 ≡ suc (length specs) = c in omega arith)
+starts-from d k (s ∷ specs) (i ∷ sources) (n ∷ inputs) (g ∷ guests) a b c each = (
   subst (λ j. IsStart d j s i n g.start) (let e : k + 0 ≡ k = omega arith in e) (each zero s i n g refl refl refl refl),
-  starts-from d (suc k) specs images inputs guests (omega arith) (omega arith) (omega arith) (λ j spec image input guest p q r t. subst (λ m. IsStart d m spec image input guest.start) (let e : k + suc j ≡ suc k + j = omega arith in e) (each (suc j) spec image input guest p q r t)),
+  starts-from d (suc k) specs sources inputs guests (omega arith) (omega arith) (omega arith) (λ j spec source input guest p q r t. subst (λ m. IsStart d m spec source input guest.start) (let e : k + suc j ≡ suc k + j = omega arith in e) (each (suc j) spec source input guest p q r t)),
 )
 
-pub all-starts : (d : Described) (images : List Image) (guests : List Monitored) (tokens : List Token) → IsAccepted d → length images ≡ length d.guests → HasBooted d images guests tokens → AreStarts d 0 d.guests images d.input (map start_of guests)
-all-starts d images guests tokens accepted many booted =
-    starts-from d 0 d.guests images d.input guests many accepted.each_input (booted.guests_are.count ∙ many) (λ i spec image input guest p q r t.
-    let started = booted.guests_are.each i guest image t q in
+pub all-starts : (d : Described) (sources : List Source) (guests : List Monitored) (tokens : List Token) (table : MadeTable) (holder : Holding) → IsAccepted d → length sources ≡ length d.guests → HasBooted d sources guests tokens table holder → AreStarts d 0 d.guests sources d.input (map start_of guests)
+all-starts d sources guests tokens table holder accepted many booted =
+    starts-from d 0 d.guests sources d.input guests many accepted.each_input (booted.guests_are.count ∙ many) (λ i spec source input guest p q r t.
+    let started = booted.guests_are.each i guest source t q in
     let same-spec = same-some started.spec spec (sym started.spec_is ∙ p) in
     let same-input = same-some started.input input (sym started.input_is ∙ r) in
-    let is = subst (λ (x : GuestSpec). IsStart d i x image started.input guest.start) same-spec started.start in
-    subst (λ m. IsStart d m spec image input guest.start) (let e : i ≡ 0 + i = omega arith in e) (subst (λ (x : List InputEntry). IsStart d i spec image x guest.start) same-input is))
+    let is = subst (λ (x : GuestSpec). IsStart d i x source started.input guest.start) same-spec started.start in
+    subst (λ m. IsStart d m spec source input guest.start) (let e : i ≡ 0 + i = omega arith in e) (subst (λ (x : List InputEntry). IsStart d i spec source x guest.start) same-input is))
 
 pub is-whole : (d : Described) (boots : List Boot) (out : RunRecord) → IsRunOf boots d.items out → IsWhole d boots out
 is-whole d boots out is = record { states = is.states; guests = is.guests; due = is.due }

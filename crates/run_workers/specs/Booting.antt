@@ -2,15 +2,21 @@
 use Rattle.std.specs.Prelude.{◌≡◌, ℕ, List, [], ◌∷◌, length, map, None, Some, slice_get, slice_index}
 use Rattle.atomic_table.specs.Seated.{TableId}
 use Rattle.base_words.specs.declared.input.InputEntry.{InputEntry}
-use Rattle.elf_image.specs.declared.image.Image.{Image}
+use Rattle.frame_words.specs.Holders.{MadeTable, Holding, IsMade}
+use Rattle.run_workers.specs.declared.source.Source.{Source}
 use Rattle.isolation_law.specs.Start.{Boot}
+use Rattle.node_frames.specs.Layout.{Layout}
+use Rattle.node_frames.specs.Left.{Left}
+use Rattle.boot_frames.specs.Lots.{Serves}
+use Rattle.boot_frames.specs.declared.lots.Lot.{Lot}
 use Rattle.shootdown.specs.Notes.{Token, Seat}
 use Rattle.shootdown.specs.Making.{numbered, fresh_token}
 use Rattle.machine_desc.specs.declared.machine.GuestSpec.{GuestSpec}
 use Rattle.machine_desc.specs.declared.machine.Machine.{Machine}
 use Rattle.machine_desc.specs.Described.{Described}
 use Rattle.guest_course.specs.declared.site.Site.{Site}
-use Rattle.guest_core.specs.GuestView.{Monitored}
+use Rattle.guest_core.specs.GuestView.{Monitored, IsTableOf}
+use Rattle.boot_frames.specs.Needs.{need_of}
 use Rattle.run_workers.specs.Starting.{IsStart}
 
 -- the home cell of a guest
@@ -26,25 +32,30 @@ pub record IsSite (machine : Machine) (site : Site) : Type 0 where
   pub homes : map (λ c. c.0) site.homes ≡ map (home_in machine) machine.guests
   pub policy : site.policy ≡ machine.policy
 
--- a guest of this number that goes on, with a seat of this board
-pub record IsFresh (board : TableId) (number : ℕ) (guest : Monitored) : Type 0 where
+-- the frames and the holder of a guest, of what the guests before it left
+abbrev pub IsLotOf : MadeTable → Layout → GuestSpec → Lot → Type 0
+IsLotOf table layout spec lot = (left : Left) × Serves table layout left (need_of spec) lot
+
+-- a guest of this number that goes on, with a seat of this board and a holder of this table
+pub record IsFresh (board : TableId) (table : MadeTable) (number : ℕ) (guest : Monitored) : Type 0 where
   pub number_is : guest.number ≡ number
   pub board_is : guest.board ≡ board
+  pub table_is : IsTableOf table guest
   pub goes_on : guest.state.end ≡ None
 
--- a guest of this number that was started as its description says, from this image
-pub record IsStarted (d : Described) (image : Image) (board : TableId) (number : ℕ) (guest : Monitored) : Type 0 where
-  pub fresh : IsFresh board number guest
+-- a guest of this number that was started as its description says, from this source
+pub record IsStarted (d : Described) (source : Source) (board : TableId) (table : MadeTable) (number : ℕ) (guest : Monitored) : Type 0 where
+  pub fresh : IsFresh board table number guest
   pub spec : GuestSpec
   pub spec_is : slice_get d.guests number ≡ Some spec
   pub input : List InputEntry
   pub input_is : slice_get d.input number ≡ Some input
-  pub start : IsStart d number spec image input guest.start
+  pub start : IsStart d number spec source input guest.start
 
--- a guest of each image, in order
-pub record AreBooted (d : Described) (images : List Image) (board : TableId) (guests : List Monitored) : Type 0 where
-  pub count : length guests ≡ length images
-  pub each : (g : ℕ) (guest : Monitored) (image : Image) → slice_get guests g ≡ Some guest → slice_get images g ≡ Some image → IsStarted d image board g guest
+-- a guest of each source, in order
+pub record AreBooted (d : Described) (sources : List Source) (board : TableId) (table : MadeTable) (guests : List Monitored) : Type 0 where
+  pub count : length guests ≡ length sources
+  pub each : (g : ℕ) (guest : Monitored) (source : Source) → slice_get guests g ≡ Some guest → slice_get sources g ≡ Some source → IsStarted d source board table g guest
 
 -- a seat of this board and number, without notes
 pub record IsSeat (board : TableId) (number : ℕ) (seat : Seat) : Type 0 where
@@ -64,10 +75,12 @@ pub record AreSeats (count : ℕ) (seats : List Seat) : Type 0 where
   pub all : length seats ≡ count
   pub each : (g : ℕ) (seat : Seat) → slice_get seats g ≡ Some seat → IsSeat (board_of seats) g seat
 
--- the guests and the tokens of a description, of one board
-pub record HasBooted (d : Described) (images : List Image) (guests : List Monitored) (tokens : List Token) : Type 0 where
+-- the guests and the tokens of a description, of one board; and the table of the guests' frames with its first holder, which has nothing
+pub record HasBooted (d : Described) (sources : List Source) (guests : List Monitored) (tokens : List Token) (table : MadeTable) (holder : Holding) : Type 0 where
   pub board : TableId
-  pub guests_are : AreBooted d images board guests
+  pub made : IsMade table holder
+  pub nothing : holder.view.holds ≡ []
+  pub guests_are : AreBooted d sources board table guests
   pub tokens_are : tokens ≡ numbered (fresh_token board) 0 (length d.processors)
 
 -- what a guest was started from

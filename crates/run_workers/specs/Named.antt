@@ -1,6 +1,7 @@
 -- What a run needs of its guests, tokens and items, and what it leaves.
 use Rattle.std.specs.Prelude.{◌≡◌, ℕ, ◌<◌, ◌≤◌, ◌^◌, List, [], ◌∷◌, length, map, All, slice_get, Some}
 use Rattle.atomic_table.specs.Seated.{TableId}
+use Rattle.frame_words.specs.Holders.{MadeTable}
 use Rattle.shootdown.specs.Notes.{Token}
 use Rattle.shootdown.specs.Making.{numbered, fresh_token}
 use Rattle.isolation_law.specs.GuestState.{GuestState}
@@ -19,11 +20,12 @@ abbrev pub board_of_tokens : List Token → TableId
 board_of_tokens [] = no_board
 board_of_tokens (token ∷ tokens) = token.board
 
--- guests and tokens of one board, the tokens without notes, one for each processor of each guest; and a plan for them
-pub record MayRun (guests : List Monitored) (tokens : List Token) (items : List Item) : Type 0 where
+-- guests and tokens of one board, the guests' holders of one table, the tokens without notes, one for each processor of each guest; and a
+-- plan for them
+pub record MayRun (guests : List Monitored) (tokens : List Token) (table : MadeTable) (items : List Item) : Type 0 where
   pub few : length guests ≤ 8
   pub some : 0 < length tokens
-  pub guests_are : (g : ℕ) (guest : Monitored) → slice_get guests g ≡ Some guest → IsFresh (board_of_tokens tokens) g guest
+  pub guests_are : (g : ℕ) (guest : Monitored) → slice_get guests g ≡ Some guest → IsFresh (board_of_tokens tokens) table g guest
   pub tokens_are : tokens ≡ numbered (fresh_token (board_of_tokens tokens)) 0 (length tokens)
   pub processors : (g : ℕ) (guest : Monitored) → slice_get guests g ≡ Some guest → length guest.start.around.processors ≡ length tokens
   pub few_items : length items < 2 ^ 32

@@ -1,25 +1,29 @@
 -- What the guests of a description are started from.
-use Rattle.std.specs.Prelude.{◌≡◌, ◌≤◌, ℕ, suc, sum_by, List, [], ◌∷◌, length, map, All, Bool, true, false, Option, None, slice_index}
+use Rattle.std.specs.Prelude.{◌≡◌, ◌<◌, ℕ, suc, List, [], ◌∷◌, length, map, All, Bool, true, false, None, slice_index, slice_index_or}
 use Rattle.base_words.specs.declared.input.InputEntry.{InputEntry}
-use Rattle.elf_image.specs.declared.image.Image.{Image}
+use Rattle.node_frames.specs.Layout.{Layout}
+use Rattle.node_frames.specs.Left.{first_left}
+use Rattle.boot_frames.specs.Chain.{first_short}
+use Rattle.boot_frames.specs.Needs.{need_of}
+use Rattle.run_workers.specs.declared.source.Source.{Source}
 use Rattle.isolation_law.specs.Surroundings.{Surroundings}
 use Rattle.isolation_law.specs.Start.{Boot}
 use Rattle.machine_desc.specs.declared.machine.GuestSpec.{GuestSpec}
 use Rattle.machine_desc.specs.declared.plan.Item.{Item}
 use Rattle.machine_desc.specs.declared.plan.Item.TheVariants.{Run, Move, Fail}
 use Rattle.machine_desc.specs.Described.{Described}
+use Rattle.private_machine.specs.Disk.{as_given}
+use Rattle.guest_course.specs.BootCalls.{given_blocks}
 use Rattle.guest_core.specs.Starting.{image_of}
 
--- what is built so far: one node, no index of shared blocks, no disks, no policy, and no work but runs
+-- what is built so far: no index of shared blocks, no policy, and no work but runs
 abbrev pub is_run : Item → Bool
 is_run (Run processor guest vcpu steps) = true
 is_run (Move processor guest page kind node) = false
 is_run (Fail processor cell) = false
 
 pub record IsBuilt (d : Described) : Type 0 where
-  pub one_node : d.nodes ≡ 1
   pub no_cache : d.cache ≡ 0
-  pub no_disks : All (λ (spec : GuestSpec). spec.disk ≡ None) d.guests
   pub no_migration : d.policy.migrate ≡ 0
   pub no_replication : d.policy.replicate ≡ 0
   pub runs : All (λ item. is_run item ≡ true) d.items
@@ -39,28 +43,33 @@ around_of d guest spec = record {
   policy = d.policy;
 }
 
--- a guest starts from its image and with its input, on frames of which each page has one
-pub record IsStart (d : Described) (guest : ℕ) (spec : GuestSpec) (image : Image) (input : List InputEntry) (b : Boot) : Type 0 where
+-- a guest starts from its image and its disk and with its input, on frames of which each page has one
+pub record IsStart (d : Described) (guest : ℕ) (spec : GuestSpec) (source : Source) (input : List InputEntry) (b : Boot) : Type 0 where
   pub around : b.around ≡ around_of d guest spec
-  pub image_is : b.image ≡ image_of image
+  pub image_is : b.image ≡ image_of source.image
   pub vcpus : b.vcpus ≡ spec.vcpus
-  pub no_disk : b.disk ≡ []
+  pub disk_is : b.disk ≡ given_blocks source.disk
   pub input_is : b.input ≡ input
-  pub backed : length b.frames ≡ length image.pages
+  pub backed : length b.frames ≡ length source.image.pages
 
 -- so do all, from a number on
-abbrev pub AreStarts : Described → ℕ → List GuestSpec → List Image → List (List InputEntry) → List Boot → Type 0
+abbrev pub AreStarts : Described → ℕ → List GuestSpec → List Source → List (List InputEntry) → List Boot → Type 0
 AreStarts d guest [] [] [] [] = Unit {0}
-AreStarts d guest (spec ∷ specs) (image ∷ images) (input ∷ inputs) (b ∷ boots) =
-    IsStart d guest spec image input b × AreStarts d (suc guest) specs images inputs boots
-AreStarts d guest specs images inputs boots = ⊥
+AreStarts d guest (spec ∷ specs) (source ∷ sources) (input ∷ inputs) (b ∷ boots) =
+    IsStart d guest spec source input b × AreStarts d (suc guest) specs sources inputs boots
+AreStarts d guest specs sources inputs boots = ⊥
 
--- there is an image for each guest, with as many pages as the guest
-abbrev pub AreImages : List GuestSpec → List Image → Type 0
-AreImages [] [] = Unit {0}
-AreImages (spec ∷ specs) (image ∷ images) = (length image.pages ≡ spec.pages) × AreImages specs images
-AreImages specs images = ⊥
+-- there is a source for each guest: an image with as many pages as the guest, and a disk as it was given, in whole blocks
+pub record IsSource (spec : GuestSpec) (source : Source) : Type 0 where
+  pub pages : length source.image.pages ≡ spec.pages
+  pub unwritten : source.disk ≡ map as_given (given_blocks source.disk)
+  pub blocks : (k : ℕ) → k < length (given_blocks source.disk) → length (slice_index_or (given_blocks source.disk) k []) ≡ 4096
 
--- the guests' pages fit into so many frames
-abbrev pub Fits : ℕ → List GuestSpec → Type 0
-Fits frames specs = sum_by (λ (spec : GuestSpec). spec.pages) specs ≤ frames
+abbrev pub AreSources : List GuestSpec → List Source → Type 0
+AreSources [] [] = Unit {0}
+AreSources (spec ∷ specs) (source ∷ sources) = IsSource spec source × AreSources specs sources
+AreSources specs sources = ⊥
+
+-- each guest gets its frames, one guest after another, of all that the machine has and its cells lend
+abbrev pub AreServed : Layout → List ℕ → List GuestSpec → Type 0
+AreServed layout lends specs = first_short layout 0 (map need_of specs) (first_left layout lends) ≡ None

@@ -1,24 +1,29 @@
 //! The guests of a description, at their starts.
 ghost use Rattle.std.specs.Prelude.{◌≡◌, ℕ, ◌+◌, ◌*◌, ◌<◌, ◌≤◌, ◌^◌, [], ◌∷◌, All, IfOk, map, length, Some, slice_get};
 ghost use Rattle.atomic_table.specs.Seated.{TableId};
-ghost use Rattle.elf_image.specs.declared.image.Image.{Image};
+ghost use Rattle.run_workers.specs.declared.source.Source.{Source};
 ghost use Rattle.machine_desc.specs.declared.machine.GuestSpec.{GuestSpec};
 ghost use Rattle.machine_desc.specs.Described.{described_seen};
 ghost use Rattle.machine_desc.specs.Accepted.{IsDescribed};
 ghost use Rattle.shootdown.specs.Notes.{Seat};
-ghost use Rattle.run_workers.specs.Starting.{IsBuilt, AreImages};
-ghost use Rattle.run_workers.specs.Booting.{home_in, IsSite, IsSeat, board_of, AreSeats, IsStarted, AreBooted, HasBooted};
+ghost use Rattle.frame_words.specs.FrameRights.{first_view};
+ghost use Rattle.frame_words.specs.Holders.{IsMade};
+ghost use Rattle.node_frames.specs.Layout.{layout_of};
+ghost use Rattle.node_frames.specs.Left.{first_left};
+ghost use Rattle.boot_frames.specs.Lots.{ServesAll};
+ghost use Rattle.boot_frames.specs.Needs.{need_of};
+ghost use Rattle.run_workers.specs.Starting.{IsBuilt, IsSource, AreSources, AreServed};
+ghost use Rattle.run_workers.specs.Booting.{home_in, IsSite, IsSeat, board_of, AreSeats, IsLotOf, IsStarted, AreBooted, HasBooted};
 
-use base_words::{CellList, Frame, FrameList, FrameNo, GuestId, Page, Sequence, Shape};
-use elf_image::Image;
+use crate::{Source, SourceList};
+use base_words::{CellList, GuestId, Sequence, Shape};
+use boot_frames::{Lot, Shortage, a_lot_holds_its_frames, each_guest_has_its_lot, needs_of, place};
+use frame_words::{FrameTable, Holder};
 use guest_core::Guest;
 use guest_course::{Around, Site};
 use machine_desc::{Machine, Plan};
 use shootdown::{GuestSeat, SeatList, TokenList, tokens};
 use std::alloc::{AllocError, Global};
-
-/// The generation under which the first holder of a frame holds it.
-const FIRST_GENERATION: u32 = 1;
 
 /// A copy of a list.
 fn copied<T: Copy>(alloc: Global, list: &Sequence<T>) -> Result<Sequence<T>, AllocError>
@@ -60,92 +65,139 @@ fn site_of(alloc: Global, machine: &Machine) -> Result<Site, AllocError>
     })
 }
 
-/// So many frames, numbered from one on.
-fn frames_from(alloc: Global, first: u32, count: usize) -> Result<FrameList, AllocError>
-    requires { first + count < 2 ^ 32 }
-    ensures { IfOk result (λ frames. length frames ≡ count) }
+/// The frames of all guests, each with a holder.
+fn lots_of(
+    alloc: Global,
+    machine: &Machine,
+    plan: &Plan,
+    table: &FrameTable,
+    holder: &mut Holder,
+) -> Result<Vec<Lot>, AllocError>
+    requires described { IsDescribed machine.now plan.now }
+    requires served { AreServed (layout_of machine.now.shape) machine.now.lends machine.now.guests }
+    requires made { IsMade table.now holder.old }
+    requires first { holder.old.view ≡ first_view table.now.terms }
+    requires frames { table.now.terms.frames ≡ machine.now.shape.nodes * machine.now.shape.frames }
+    requires fresh { table.now.terms.first ≡ 0 }
+    requires lends { table.now.terms.lends ≡ machine.now.lends }
+    ensures serves { IfOk result (λ lots. ServesAll table.now (layout_of machine.now.shape) (first_left (layout_of machine.now.shape) machine.now.lends) (map need_of machine.now.guests) lots.items) }
+    ensures rest { IfOk result (λ lots. holder.new.view.holds ≡ []) }
+    ensures same { holder.new.table ≡ holder.old.table }
 {
-    let mut frames = FrameList::new(alloc);
-    for place in 0..count {
-        frames.push(Frame {
-            number: FrameNo(first + place as u32),
-            generation: FIRST_GENERATION,
-            page: Page::zeroed(alloc)?,
-        })?;
+    let _ = plan;
+    let needs = needs_of(alloc, machine.guests.as_slice())?;
+    match place(alloc, table, holder, &machine.shape, needs.as_slice()) {
+        Ok(lots) => Ok(lots),
+        Err(Shortage::Memory) => Err(AllocError),
+        Err(Shortage::Guest { .. }) => unreachable!(),
     }
-    Ok(frames)
 }
 
-/// The guest of a seat, as the description says, with its pages on frames from one on.
+/// The guest of a seat, as the description says, with its pages on the frames of a lot.
 fn boot_one(
     alloc: Global,
     machine: &Machine,
     plan: &Plan,
     number: usize,
-    image: Image,
+    source: Source,
+    lot: Lot,
     seat: GuestSeat,
-    first: u32,
+    table: &FrameTable,
 ) -> Result<Guest, AllocError>
     requires described { IsDescribed machine.now plan.now }
     requires built { IsBuilt (described_seen machine.now plan.now) }
     requires there { number < length machine.now.guests }
-    requires pages { (spec : GuestSpec) → slice_get machine.now.guests number ≡ Some spec → length image.pages ≡ spec.pages }
-    requires frames { first + length image.pages < 2 ^ 32 }
+    requires source { (spec : GuestSpec) → slice_get machine.now.guests number ≡ Some spec → IsSource spec source }
+    requires lot { (spec : GuestSpec) → slice_get machine.now.guests number ≡ Some spec → IsLotOf table.now (layout_of machine.now.shape) spec lot }
     requires seat { IsSeat seat.board number seat }
-    ensures { IfOk result (IsStarted (described_seen machine.now plan.now) image seat.board number) }
+    requires frames { table.now.terms.frames ≡ machine.now.shape.nodes * machine.now.shape.frames }
+    requires lends { table.now.terms.lends ≡ machine.now.lends }
+    ensures { IfOk result (IsStarted (described_seen machine.now plan.now) source seat.board table.now number) }
 {
+    a_lot_holds_its_frames();
+    let _ = table;
     let spec = &machine.guests.as_slice()[number];
     let around = Around {
         number: GuestId(number as u8),
         home: spec.node,
         site: site_of(alloc, machine)?,
     };
-    let frames = frames_from(alloc, first, image.pages.len())?;
+    let Source { image, disk } = source;
+    let Lot { frames, holder } = lot;
     let input = &plan.input.as_slice()[number];
-    Guest::boot(alloc, image, around, spec.vcpus, input, frames, seat)
+    Guest::boot(
+        alloc, image, around, spec.vcpus, input, frames, disk, holder, seat,
+    )
 }
 
-/// A guest of each image, as the description says, with its pages on the next frames.
+/// A guest of each source, as the description says, with its pages on the frames of its lot.
 fn boot_all(
     alloc: Global,
     machine: &Machine,
     plan: &Plan,
-    images: Sequence<Image>,
+    sources: SourceList,
+    lots: Vec<Lot>,
     seats: SeatList,
+    table: &FrameTable,
 ) -> Result<Vec<Guest>, AllocError>
     requires described { IsDescribed machine.now plan.now }
     requires built { IsBuilt (described_seen machine.now plan.now) }
-    requires images { AreImages machine.now.guests images }
-    requires seats { AreSeats (length images) seats }
-    ensures { IfOk result (λ guests. AreBooted (described_seen machine.now plan.now) images (board_of seats) guests.items) }
+    requires sources { AreSources machine.now.guests sources }
+    requires lots { ServesAll table.now (layout_of machine.now.shape) (first_left (layout_of machine.now.shape) machine.now.lends) (map need_of machine.now.guests) lots.items }
+    requires seats { AreSeats (length sources) seats }
+    requires frames { table.now.terms.frames ≡ machine.now.shape.nodes * machine.now.shape.frames }
+    requires lends { table.now.terms.lends ≡ machine.now.lends }
+    ensures { IfOk result (λ guests. AreBooted (described_seen machine.now plan.now) sources (board_of seats) table.now guests.items) }
 {
+    each_guest_has_its_lot();
     let mut seats = seats.into_vec().into_iter();
+    let mut lots = lots.into_iter();
     let mut guests: Vec<Guest> = Vec::new(alloc);
-    let mut next = 0;
-    for image in images.into_vec() {
+    for source in sources.into_vec() {
         let Some(seat) = seats.next() else {
             unreachable!();
         };
+        let Some(lot) = lots.next() else {
+            unreachable!();
+        };
         let number = guests.len();
-        let pages = image.pages.len() as u32;
-        guests.push(boot_one(alloc, machine, plan, number, image, seat, next)?)?;
-        next += pages;
+        guests.push(boot_one(alloc, machine, plan, number, source, lot, seat, table)?)?;
     }
     Ok(guests)
 }
 
-/// The guests of a description, and a token for each of its processors, all of one board.
+/// What a run begins with: the guests of a description, a token for each of its processors, and the table of the guests' frames with its
+/// first holder, which has nothing.
+#[derive(Drop)]
+pub(crate) struct Booted {
+    pub(crate) guests: Vec<Guest>,
+    pub(crate) tokens: TokenList,
+    pub(crate) table: FrameTable,
+    pub(crate) holder: Holder,
+}
+
+/// The guests of a description, with all that their run begins with.
 pub(crate) fn boot(
     alloc: Global,
     machine: &Machine,
     plan: &Plan,
-    images: Sequence<Image>,
-) -> Result<(Vec<Guest>, TokenList), AllocError>
+    sources: SourceList,
+) -> Result<Booted, AllocError>
     requires described { IsDescribed machine.now plan.now }
     requires built { IsBuilt (described_seen machine.now plan.now) }
-    requires images { AreImages machine.now.guests images }
-    ensures { IfOk result (λ booted. HasBooted (described_seen machine.now plan.now) images booted.0.items booted.1) }
+    requires served { AreServed (layout_of machine.now.shape) machine.now.lends machine.now.guests }
+    requires sources { AreSources machine.now.guests sources }
+    ensures { IfOk result (λ b. HasBooted (described_seen machine.now plan.now) sources b.guests.items b.tokens b.table b.holder) }
 {
-    let (tokens, seats) = tokens(alloc, machine.processors.len() as u8, images.len() as u8)?;
-    Ok((boot_all(alloc, machine, plan, images, seats)?, tokens))
+    let frames = u32::from(machine.shape.nodes) * machine.shape.frames;
+    let (table, mut holder) = FrameTable::new(alloc, frames, machine.lends.as_slice(), 0)?;
+    let lots = lots_of(alloc, machine, plan, &table, &mut holder)?;
+    let (tokens, seats) = tokens(alloc, machine.processors.len() as u8, sources.len() as u8)?;
+    let guests = boot_all(alloc, machine, plan, sources, lots, seats, &table)?;
+    Ok(Booted {
+        guests,
+        tokens,
+        table,
+        holder,
+    })
 }

@@ -10,7 +10,7 @@ ghost use Rattle.run_workers.specs.Planned.{planned};
 ghost use Rattle.run_workers.specs.Working.{IsSameToken, HasPlace, ItemFits, CarriesOne};
 
 use crate::serving::{Job, serve};
-use guest_core::SliceRecord;
+use guest_core::{Resources, SliceRecord};
 use guest_lock::{GuestCell, GuestCells, Starts};
 use machine_desc::Item;
 use outside_io::Gate;
@@ -24,6 +24,7 @@ fn serve_at<N: Starts, const G: u8, R: Wait, T: Gate>(
     alloc: Global,
     cell: &Option<GuestCell<N, G>>,
     token: &mut ProcToken,
+    resources: &Resources,
     gate: &T,
     job: Job,
 ) -> Result<SliceRecord, AllocError>
@@ -32,11 +33,12 @@ fn serve_at<N: Starts, const G: u8, R: Wait, T: Gate>(
     requires guest { job.guest.0 ≡ G }
     requires place { HasPlace N.starts job.guest.0 job.vcpu.0 }
     requires free { shown G token.old ≡ None }
+    requires table { resources.now.table.now ≡ N.table }
     ensures served { IfOk result (λ slice. Serves (planned_job token.old.number job) token.old slice token.new) }
     ensures same { IsSameToken token.old token.new }
 {
     match cell {
-        Some(cell) => serve(rt, alloc, cell, token, gate, job),
+        Some(cell) => serve(rt, alloc, cell, token, resources, gate, job),
         None => unreachable!(),
     }
 }
@@ -47,6 +49,7 @@ fn serve_job<N: Starts, R: Wait, T: Gate>(
     alloc: Global,
     cells: &GuestCells<N>,
     token: &mut ProcToken,
+    resources: &Resources,
     gate: &T,
     job: Job,
 ) -> Result<SliceRecord, AllocError>
@@ -54,18 +57,19 @@ fn serve_job<N: Starts, R: Wait, T: Gate>(
     requires token { Fits N.starts N.board token.old }
     requires place { HasPlace N.starts job.guest.0 job.vcpu.0 }
     requires free { shown job.guest.0 token.old ≡ None }
+    requires table { resources.now.table.now ≡ N.table }
     ensures served { IfOk result (λ slice. Serves (planned_job token.old.number job) token.old slice token.new) }
     ensures same { IsSameToken token.old token.new }
 {
     match job.guest.0 {
-        0 => serve_at(rt, alloc, &cells.zero, token, gate, job),
-        1 => serve_at(rt, alloc, &cells.one, token, gate, job),
-        2 => serve_at(rt, alloc, &cells.two, token, gate, job),
-        3 => serve_at(rt, alloc, &cells.three, token, gate, job),
-        4 => serve_at(rt, alloc, &cells.four, token, gate, job),
-        5 => serve_at(rt, alloc, &cells.five, token, gate, job),
-        6 => serve_at(rt, alloc, &cells.six, token, gate, job),
-        7 => serve_at(rt, alloc, &cells.seven, token, gate, job),
+        0 => serve_at(rt, alloc, &cells.zero, token, resources, gate, job),
+        1 => serve_at(rt, alloc, &cells.one, token, resources, gate, job),
+        2 => serve_at(rt, alloc, &cells.two, token, resources, gate, job),
+        3 => serve_at(rt, alloc, &cells.three, token, resources, gate, job),
+        4 => serve_at(rt, alloc, &cells.four, token, resources, gate, job),
+        5 => serve_at(rt, alloc, &cells.five, token, resources, gate, job),
+        6 => serve_at(rt, alloc, &cells.six, token, resources, gate, job),
+        7 => serve_at(rt, alloc, &cells.seven, token, resources, gate, job),
         _ => unreachable!(),
     }
 }
@@ -76,6 +80,7 @@ fn carry_one<N: Starts, R: Wait, T: Gate>(
     alloc: Global,
     cells: &GuestCells<N>,
     token: &mut ProcToken,
+    resources: &Resources,
     gate: &T,
     number: u32,
     item: Item,
@@ -84,6 +89,7 @@ fn carry_one<N: Starts, R: Wait, T: Gate>(
     requires token { Fits N.starts N.board token.old }
     requires place { ItemFits N.starts item }
     requires free { (g : _) → shown g token.old ≡ None }
+    requires table { resources.now.table.now ≡ N.table }
     ensures carried { IfOk result (λ slice. CarriesOne number item token.old slice token.new) }
     ensures same { IsSameToken token.old token.new }
 {
@@ -105,7 +111,7 @@ fn carry_one<N: Starts, R: Wait, T: Gate>(
         vcpu,
         steps,
     };
-    Ok(Some(serve_job(rt, alloc, cells, token, gate, job)?))
+    Ok(Some(serve_job(rt, alloc, cells, token, resources, gate, job)?))
 }
 
 /// Adds a slice, if there is one.
@@ -124,6 +130,7 @@ pub(crate) fn carry_out<N: Starts, R: Wait, T: Gate>(
     alloc: Global,
     cells: &GuestCells<N>,
     token: &mut ProcToken,
+    resources: &Resources,
     gate: &T,
     items: &[Item],
 ) -> Result<Vec<SliceRecord>, AllocError>
@@ -132,12 +139,22 @@ pub(crate) fn carry_out<N: Starts, R: Wait, T: Gate>(
     requires token { Fits N.starts N.board token.old }
     requires places { All (ItemFits N.starts) items.now }
     requires no_notes { token.old.notes ≡ [] }
+    requires table { resources.now.table.now ≡ N.table }
     ensures told { IfOk result (λ slices. AreTold (own token.new.number (planned 0 items.now)) slices.items token.new.notes) }
     ensures same { IsSameToken token.old token.new }
 {
     let mut slices = Vec::new(alloc);
     for (number, item) in items.iter().enumerate() {
-        let slice = carry_one(rt, alloc, cells, token, gate, number as u32, *item)?;
+        let slice = carry_one(
+            rt,
+            alloc,
+            cells,
+            token,
+            resources,
+            gate,
+            number as u32,
+            *item,
+        )?;
         add(&mut slices, slice)?;
     }
     Ok(slices)

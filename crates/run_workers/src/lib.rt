@@ -7,6 +7,8 @@ mod ending;
 mod ordering;
 mod running;
 mod serving;
+mod source;
 mod workers;
 
 pub use running::run;
+pub use source::{Source, SourceList};

@@ -8,7 +8,7 @@ ghost use Rattle.run_workers.specs.Working.{IsSameToken};
 ghost use Rattle.run_workers.specs.Jobs.{planned_job};
 
 use base_words::{GuestId, VcpuId};
-use guest_core::{Cut, Loaded, SliceRecord};
+use guest_core::{Cut, Loaded, Resources, SliceRecord};
 use guest_lock::{Burst, GuestCell, Starts, Stop, bursts_join, tokens_grow};
 use outside_io::{Gate, GatePoint};
 use shootdown::ProcToken;
@@ -30,11 +30,13 @@ fn make_turns<N: Starts, const G: u8, R: Wait, T: Gate>(
     alloc: Global,
     cell: &GuestCell<N, G>,
     token: &mut ProcToken,
+    resources: &Resources,
     gate: &T,
     job: Job,
 ) -> Burst
     requires token { Fits N.starts N.board token.old }
     requires loaded { shown G token.old ≢ None }
+    requires table { resources.now.table.now ≡ N.table }
     ensures told { Bursts token.old G result token.new }
     ensures few { result.steps ≤ job.steps }
     ensures all { result.stop ≡ Paused → result.steps ≡ job.steps }
@@ -51,7 +53,15 @@ fn make_turns<N: Starts, const G: u8, R: Wait, T: Gate>(
             vcpu: job.vcpu,
             turn: made.turns,
         };
-        let burst = cell.burst(rt, alloc, token, gate, at, job.steps - made.steps);
+        let burst = cell.burst(
+            rt,
+            alloc,
+            token,
+            resources,
+            gate,
+            at,
+            job.steps - made.steps,
+        );
         made = made.then(burst);
     }
     unreachable!()
@@ -80,6 +90,7 @@ pub(crate) fn serve<N: Starts, const G: u8, R: Wait, T: Gate>(
     alloc: Global,
     cell: &GuestCell<N, G>,
     token: &mut ProcToken,
+    resources: &Resources,
     gate: &T,
     job: Job,
 ) -> Result<SliceRecord, AllocError>
@@ -87,6 +98,7 @@ pub(crate) fn serve<N: Starts, const G: u8, R: Wait, T: Gate>(
     requires guest { job.guest.0 ≡ G }
     requires vcpu { HasVcpu N.starts G job.vcpu.0 }
     requires free { shown G token.old ≡ None }
+    requires table { resources.now.table.now ≡ N.table }
     ensures served { IfOk result (λ slice. Serves (planned_job token.old.number job) token.old slice token.new) }
     ensures same { IsSameToken token.old token.new }
 {
@@ -94,7 +106,7 @@ pub(crate) fn serve<N: Starts, const G: u8, R: Wait, T: Gate>(
     bursts_join();
     let burst = match cell.load(rt, token, job.vcpu)? {
         Loaded::Done => {
-            let burst = make_turns(rt, alloc, cell, token, gate, job);
+            let burst = make_turns(rt, alloc, cell, token, resources, gate, job);
             cell.unload(rt, token);
             burst
         }

@@ -5,7 +5,7 @@ ghost use Rattle.run_workers.specs.declared.workers.Worker.{Worker};
 ghost use Rattle.run_workers.specs.Parts.{token_of, slices_of, slices_in};
 
 use crate::carrying::carry_out;
-use guest_core::SliceRecord;
+use guest_core::{Resources, SliceRecord};
 use guest_lock::{GuestCells, Starts};
 use machine_desc::Plan;
 use outside_io::Gate;
@@ -45,12 +45,14 @@ fn work<N: Starts, R: Wait, T: Gate>(
     rt: &R,
     alloc: Global,
     cells: &GuestCells<N>,
+    resources: &Resources,
     plan: &Plan,
     gate: &T,
     worker: &mut Worker,
 )
     requires plan { IsPlanOf N.starts plan.now.items }
     requires ready { IsReady N.starts N.board worker.old }
+    requires table { resources.now.table.now ≡ N.table }
     ensures { Works plan.now.items worker.old worker.new }
 {
     worker.slices = carry_out(
@@ -58,6 +60,7 @@ fn work<N: Starts, R: Wait, T: Gate>(
         alloc,
         cells,
         &mut worker.token,
+        resources,
         gate,
         plan.items.as_slice(),
     )
@@ -69,12 +72,14 @@ pub(crate) fn all_work<N: Starts + Send + Sync, R: Threads + Wait + Sync, T: Gat
     rt: &R,
     alloc: Global,
     cells: &GuestCells<N>,
+    resources: &Resources,
     plan: &Plan,
     gate: &T,
     workers: &mut [Worker],
 )
     requires plan { IsPlanOf N.starts plan.now.items }
     requires ready { (i : ℕ) (d : Worker) → i < length workers.old → IsReady N.starts N.board (slice_index_or workers.old i d) }
+    requires table { resources.now.table.now ≡ N.table }
     ensures each { (i : ℕ) (d : Worker) → i < length workers.old → Works plan.now.items (slice_index_or workers.old i d) (slice_index_or workers.new i d) }
     ensures all { length workers.new ≡ length workers.old }
 {
@@ -83,9 +88,9 @@ pub(crate) fn all_work<N: Starts + Send + Sync, R: Threads + Wait + Sync, T: Gat
         workers,
         WORKERS,
         &|_, worker: &mut Worker|
-            requires { IsPlanOf N.starts plan.now.items × IsReady N.starts N.board worker.now }
+            requires { IsPlanOf N.starts plan.now.items × IsReady N.starts N.board worker.now × (resources.now.table.now ≡ N.table) }
             ensures { Works plan.entry.now.items worker.entry.now worker.exit.now }
-        { work(rt, alloc, cells, plan, gate, worker) },
+        { work(rt, alloc, cells, resources, plan, gate, worker) },
     );
 }
 

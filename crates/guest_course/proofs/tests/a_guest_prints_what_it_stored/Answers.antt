@@ -1,5 +1,5 @@
 -- The guest is small.
-use Rattle.std.proofs.Common.{◌<◌, ◌≤◌, ◌*◌, ◌^◌, ℕ, length, sym, ap, subst, arith}
+use Rattle.std.proofs.Common.{◌<◌, ◌≤◌, ◌*◌, ◌^◌, ℕ, length, refl, sym, ap, subst, arith}
 use Rattle.guest_course.specs.BootCalls.{AllBelow}
 use Rattle.guest_course.proofs.tests.a_guest_prints_what_it_stored.Goals as goal
 
@@ -15,4 +15,6 @@ boot-requires g c =
       few_frames = rw (around.nodes, around.frames) (omega arith);
       on_nodes = rw (around.nodes, around.processors) ((omega arith), tt);
       whole = frames.whole;
+      unwritten = rw c.new-disk.ensures refl;
+      blocks = rw c.new-disk.ensures (λ k lt. absurd (omega arith));
     }

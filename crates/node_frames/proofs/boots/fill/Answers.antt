@@ -1,7 +1,7 @@
 use Rattle.std.proofs.Common.{◌≡◌, ℕ, List, ap, subst, sym, ◌∙◌, arith}
 use Rattle.base_words.specs.declared.ids.NodeId.{NodeId}
 use Rattle.node_frames.specs.Places.{AreNodes}
-use Rattle.base_words.specs.declared.frame.Shape.{Shape}
+use Rattle.node_frames.specs.Layout.{Layout, layout_of}
 use Rattle.frame_words.specs.declared.view.View.{View}
 use Rattle.node_frames.specs.declared.answers.Shown.{Shown}
 use Rattle.node_frames.specs.declared.answers.FindFault.{FindFault}
@@ -14,35 +14,35 @@ use Rattle.node_frames.proofs.NextLemmas.{finds_next, finds_no_more, has_falls, 
 use Rattle.node_frames.proofs.boots.fill.Goals as goal
 
 pub find-requires-clause-nodes : goal.find-requires-clause-nodes
-find-requires-clause-nodes c = subst (AreNodes c.args.shape.now) (sym c.requires.order) (boot_nodes-below c.args.shape.now c.args.start c.requires.start)
+find-requires-clause-nodes c = subst (AreNodes (layout_of c.args.shape.now)) (sym c.requires.order) (boot_nodes-below (layout_of c.args.shape.now) c.args.start c.requires.start)
 
 -- a search that answers NoFrame
-refused : (shape : Shape) (lends : List ℕ) (home : ℕ) (order : List NodeId) (fault : FindFault) (list : List Shown) (v w : View) → fault ≡ NoFrame list → RefusedBy shape lends home order fault v w → FindsNone shape lends home order list v w
-refused shape lends home order fault list v w is r = subst (λ (f : FindFault). RefusedBy shape lends home order f v w) is r
+refused : (layout : Layout) (lends : List ℕ) (home : ℕ) (order : List NodeId) (fault : FindFault) (list : List Shown) (v w : View) → fault ≡ NoFrame list → RefusedBy layout lends home order fault v w → FindsNone layout lends home order list v w
+refused layout lends home order fault list v w is r = subst (λ (f : FindFault). RefusedBy layout lends home order f v w) is r
 
 pub returns-in-Err-NoFrame-clause-most : goal.returns-in-Err-NoFrame-clause-most
 returns-in-Err-NoFrame-clause-most c =
     let i = c.loop-taken.invariant in
-    let f = refused c.args.shape.now c.args.table.now.terms.lends c.args.home.0 c.args.order.now _ c.in-Err-NoFrame.field-0-0 _ _ c.in-Err-NoFrame.field-0-is c.in-Err-NoFrame.ensures.refused in
-    let none = has_nothing c.args.shape.now c.args.table.now.terms.lends c.args.home.0 c.args.start c.in-Err-NoFrame.field-0-0 _ _ c.requires.start i.1
-    (subst (λ (l : List NodeId). FindsNone c.args.shape.now c.args.table.now.terms.lends c.args.home.0 l c.in-Err-NoFrame.field-0-0 c.loop-taken.holder.view c.find.new.holder.view) c.requires.order f) in
+    let f = refused (layout_of c.args.shape.now) c.args.table.now.terms.lends c.args.home.0 c.args.order.now _ c.in-Err-NoFrame.field-0-0 _ _ c.in-Err-NoFrame.field-0-is c.in-Err-NoFrame.ensures.refused in
+    let none = has_nothing (layout_of c.args.shape.now) c.args.table.now.terms.lends c.args.home.0 c.args.start c.in-Err-NoFrame.field-0-0 _ _ c.requires.start i.1
+    (subst (λ (l : List NodeId). FindsNone (layout_of c.args.shape.now) c.args.table.now.terms.lends c.args.home.0 l c.in-Err-NoFrame.field-0-0 c.loop-taken.holder.view c.find.new.holder.view) c.requires.order f) in
     let before = i.3 in
     let more = c.loop-taken-test.true in omega arith
 
 pub returns-in-Err-NoFrame-clause-left : goal.returns-in-Err-NoFrame-clause-left
 returns-in-Err-NoFrame-clause-left c =
     let i = c.loop-taken.invariant in
-    let f = refused c.args.shape.now c.args.table.now.terms.lends c.args.home.0 c.args.order.now _ c.in-Err-NoFrame.field-0-0 _ _ c.in-Err-NoFrame.field-0-is c.in-Err-NoFrame.ensures.refused in
-    (finds_no_more c.args.shape.now c.args.table.now.terms.lends c.args.home.0 c.args.order.now c.in-Err-NoFrame.field-0-0 c.loop-taken.holder.view c.find.new.holder.view i.1 f).after ∙ i.2
+    let f = refused (layout_of c.args.shape.now) c.args.table.now.terms.lends c.args.home.0 c.args.order.now _ c.in-Err-NoFrame.field-0-0 _ _ c.in-Err-NoFrame.field-0-is c.in-Err-NoFrame.ensures.refused in
+    (finds_no_more (layout_of c.args.shape.now) c.args.table.now.terms.lends c.args.home.0 c.args.order.now c.in-Err-NoFrame.field-0-0 c.loop-taken.holder.view c.find.new.holder.view i.1 f).after ∙ i.2
 
 pub loop-taken-preserved : goal.loop-taken-preserved
 loop-taken-preserved c =
     let i = c.loop-taken.invariant in
-    let nodes : AreNodes c.args.shape.now c.args.order.now = subst (AreNodes c.args.shape.now) (sym c.requires.order) (boot_nodes-below c.args.shape.now c.args.start c.requires.start) in
-    let n = finds_next c.args.table.now c.args.shape.now c.args.home.0 c.args.order.now _ _ _ _ c.requires.fits nodes i.1 c.in-Ok.ensures.found in
-    let fewer = has_falls c.args.table.now c.args.shape.now c.args.home.0 c.args.order.now _ _ _ _ c.requires.fits nodes i.1 c.in-Ok.ensures.found in (
+    let nodes : AreNodes (layout_of c.args.shape.now) c.args.order.now = subst (AreNodes (layout_of c.args.shape.now)) (sym c.requires.order) (boot_nodes-below (layout_of c.args.shape.now) c.args.start c.requires.start) in
+    let n = finds_next c.args.table.now (layout_of c.args.shape.now) c.args.home.0 c.args.order.now _ _ _ _ c.requires.fits nodes i.1 c.in-Ok.ensures.found in
+    let fewer = has_falls c.args.table.now (layout_of c.args.shape.now) c.args.home.0 c.args.order.now _ _ _ _ c.requires.fits nodes i.1 c.in-Ok.ensures.found in (
       c.find.ensures.same ∙ i.0,
       n.alone,
-      n.chained ∙ ap (after_search c.args.shape.now c.args.home.0 c.args.order.now) i.2 ∙ sym (after_searches-more c.args.shape.now c.args.home.0 c.args.order.now c.loop-taken.taken (left_of c.args.shape.now c.args.table.now.terms.lends c.args.holder.now.view)),
+      n.chained ∙ ap (after_search (layout_of c.args.shape.now) c.args.home.0 c.args.order.now) i.2 ∙ sym (after_searches-more (layout_of c.args.shape.now) c.args.home.0 c.args.order.now c.loop-taken.taken (left_of (layout_of c.args.shape.now) c.args.table.now.terms.lends c.args.holder.now.view)),
       omega arith,
     )

@@ -1,5 +1,8 @@
-use Rattle.node_frames.proofs.CellLemmas.{searches_take, cell_searches_take}
+use Rattle.node_frames.proofs.CellLemmas.{after_searches-more, searches_take, cell_searches_take}
 use Rattle.node_frames.proofs.law.searches_take_what_is_left.Goals as goal
+
+pub returns-clause-more : goal.returns-clause-more
+returns-clause-more c = after_searches-more
 
 pub returns-clause-guest : goal.returns-clause-guest
 returns-clause-guest c = searches_take

@@ -6,6 +6,7 @@ use Rattle.node_frames.specs.Searches.{FindsNone}
 use Rattle.node_frames.specs.declared.answers.Shown.{Shown}
 use Rattle.node_frames.proofs.FindLemmas.{searched_more, finds_none, finds}
 use Rattle.node_frames.proofs.search.find.Goals as goal
+use Rattle.node_frames.specs.Layout.{layout_of}
 
 abbrev none : NodeId
 none = record { 0 = 0 }
@@ -35,4 +36,4 @@ pub returns-clause-refused : goal.returns-clause-refused
 returns-clause-refused c =
     let i = c.loop-place.invariant in
     let all : c.loop-place.place ≡ length c.args.order.now = let f = c.loop-place-test.false in let t = c.loop-place.auto.place-end in let e = ap (λ (l : List NodeId). length l) c.as_slice-node-items.ensures in omega arith in
-    subst (λ (l : List Shown). FindsNone c.args.shape.now c.args.table.now.terms.lends c.args.home.0 c.args.order.now l c.args.holder.now.view c.loop-place.holder.view) (sym c.from_vec.ensures) (finds_none _ _ _ _ _ _ _ _ i.1 all i.3)
+    subst (λ (l : List Shown). FindsNone (layout_of c.args.shape.now) c.args.table.now.terms.lends c.args.home.0 c.args.order.now l c.args.holder.now.view c.loop-place.holder.view) (sym c.from_vec.ensures) (finds_none _ _ _ _ _ _ _ _ i.1 all i.3)

@@ -1,110 +1,109 @@
-use Rattle.std.proofs.Common.{rules, ◌≡◌, ◌+◌, ◌*◌, ◌<◌, ◌≤◌, ◌^◌, ◌++◌, ◌∷◌, [], ◌∙◌, sym, ap, subst, arith, length, length-append, append_assoc, Some, List}
+use Rattle.std.proofs.Common.{rules, ◌≡◌, ◌+◌, ◌*◌, ◌<◌, ◌≤◌, ◌^◌, ◌++◌, ◌∷◌, [], ◌∙◌, sym, ap, subst, arith, drop, map, length, length-append, append_assoc, Some, List}
+use Rattle.std.proofs.lemmas.List.{length-map}
 use Rattle.std.specs.Prelude.{slice_get}
 use Rattle.std.specs.Vec.Iter.{into_iter_items}
-use Rattle.elf_image.specs.declared.image.Image.{Image}
+use Rattle.run_workers.specs.declared.source.Source.{Source}
 use Rattle.shootdown.specs.Notes.{Seat}
 use Rattle.machine_desc.specs.Described.{described_seen}
 use Rattle.guest_core.specs.GuestView.{Monitored}
 use Rattle.run_workers.specs.Booting.{board_of, IsStarted, AreBooted}
-use Rattle.run_workers.proofs.BootLemmas.{SeatsFrom, all-seats, booted-none, booted-more, next-image, image-pages}
+use Rattle.boot_frames.specs.declared.lots.Lot.{Lot}
+use Rattle.node_frames.specs.Layout.{layout_of}
+use Rattle.node_frames.specs.Left.{first_left}
+use Rattle.boot_frames.specs.Needs.{need_of}
+use Rattle.run_workers.proofs.RunLemmas.{map-get}
+use Rattle.run_workers.proofs.LotLemmas.{next-lot, rest-lots, no-more}
+use Rattle.run_workers.proofs.BootLemmas.{SeatsFrom, all-seats, booted-none, booted-more, next-source, source-at}
 use Rattle.run_workers.proofs.booting.boot_all.Goals as goal
 
-pub loop-image-init : goal.loop-image-init
-loop-image-init c =
+pub loop-source-init : goal.loop-source-init
+loop-source-init c =
     let d = described_seen c.args.machine.now c.args.plan.now in
     let board = board_of c.args.seats in
+    let table = c.args.table.now in
+    let lots : into_iter_items c.into_iter-lots.result ≡ c.args.lots.items = c.into_iter-lots.ensures.rest in
     let guests : c.new-guests.result.items ≡ [] = search rules in
     let none : length c.new-guests.result.items ≡ 0 = ap (λ (l : List Monitored). length l) guests in
     let seats : into_iter_items c.into_iter-seats.result ≡ c.args.seats = c.into_iter-seats.ensures.rest ∙ c.into_vec.ensures in
     let count = ap (λ (l : List Seat). length l) seats in
     let all = c.requires.seats.all in
-    let images : into_iter_items c.into_iter-image-iterator.result ≡ c.args.images = c.into_iter-image-iterator.ensures.into_iter_gives.0 ∙ c.into_vec-image-items.ensures in (
+    let sources : into_iter_items c.into_iter-source-iterator.result ≡ c.args.sources = c.into_iter-source-iterator.ensures.into_iter_gives.0 ∙ c.into_vec-source-items.ensures in (
       tt,
       tt,
-      subst (λ (l : List Monitored). AreBooted d [] board l) (sym guests) (booted-none d board),
-      subst (λ n. SeatsFrom board n (into_iter_items c.into_iter-seats.result)) (sym none) (subst (λ (l : List Seat). SeatsFrom board 0 l) (sym seats) (all-seats (length c.args.images) c.args.seats c.requires.seats)),
+      subst (λ (l : List Monitored). AreBooted d [] board table l) (sym guests) (booted-none d board table),
+      subst (λ n. SeatsFrom board n (into_iter_items c.into_iter-seats.result)) (sym none) (subst (λ (l : List Seat). SeatsFrom board 0 l) (sym seats) (all-seats (length c.args.sources) c.args.seats c.requires.seats)),
       omega (arith, none, count, all),
-      images,
-      omega (arith, none),
+      sources,
+      lots ∙ sym (ap (λ n. drop n c.args.lots.items) none),
     )
-
-pub overflow_cast-pages : goal.overflow_cast-pages
-overflow_cast-pages c =
-    let i = c.loop-image.invariant in
-    let next = next-image c.args.machine.now c.args.plan.now c.args.images c.loop-image.yielded _ _ c.in-Some.image c.requires.described c.requires.images i.5 c.in-Some.ensures.steps.0 in
-    let small = next.small in
-    let len = c.len-pages.ensures in
-    let few : c.len-pages.result < 2 ^ 32 = omega (arith, small, len) in
-    search rules
 
 pub boot_one-requires-clause-there : goal.boot_one-requires-clause-there
 boot_one-requires-clause-there c =
-    let i = c.loop-image.invariant in
-    let next = next-image c.args.machine.now c.args.plan.now c.args.images c.loop-image.yielded _ _ c.in-Some.image c.requires.described c.requires.images i.5 c.in-Some.ensures.steps.0 in
+    let i = c.loop-source.invariant in
+    let next = next-source c.args.machine.now c.args.plan.now c.args.sources c.loop-source.yielded _ _ c.in-Some.source c.requires.described c.requires.sources i.5 c.in-Some.ensures.steps.0 in
     let few = next.few in
     let count = i.2.count in
-    let number : c.len-number.result ≡ length c.loop-image.guests.items = search rules in
+    let number : c.len-number.result ≡ length c.loop-source.guests.items = search rules in
     omega (arith, few, count, number)
 
-pub boot_one-requires-clause-pages : goal.boot_one-requires-clause-pages
-boot_one-requires-clause-pages c = λ spec e.
-    let i = c.loop-image.invariant in
-    let next = next-image c.args.machine.now c.args.plan.now c.args.images c.loop-image.yielded _ _ c.in-Some.image c.requires.described c.requires.images i.5 c.in-Some.ensures.steps.0 in
-    let number : c.len-number.result ≡ length c.loop-image.guests.items = search rules in
-    let place : length c.loop-image.yielded ≡ c.len-number.result = sym (number ∙ i.2.count) in
-    image-pages c.args.machine.now.guests c.args.images c.len-number.result c.in-Some.image spec c.requires.images (subst (λ n. slice_get c.args.images n ≡ Some c.in-Some.image) place next.here) e
+pub boot_one-requires-clause-source : goal.boot_one-requires-clause-source
+boot_one-requires-clause-source c = λ spec e.
+    let i = c.loop-source.invariant in
+    let next = next-source c.args.machine.now c.args.plan.now c.args.sources c.loop-source.yielded _ _ c.in-Some.source c.requires.described c.requires.sources i.5 c.in-Some.ensures.steps.0 in
+    let number : c.len-number.result ≡ length c.loop-source.guests.items = search rules in
+    let place : length c.loop-source.yielded ≡ c.len-number.result = sym (number ∙ i.2.count) in
+    source-at c.args.machine.now.guests c.args.sources c.len-number.result c.in-Some.source spec c.requires.sources (subst (λ n. slice_get c.args.sources n ≡ Some c.in-Some.source) place next.here) e
 
-pub boot_one-requires-clause-frames : goal.boot_one-requires-clause-frames
-boot_one-requires-clause-frames c =
-    let i = c.loop-image.invariant in
-    let next = next-image c.args.machine.now c.args.plan.now c.args.images c.loop-image.yielded _ _ c.in-Some.image c.requires.described c.requires.images i.5 c.in-Some.ensures.steps.0 in
+-- there is a lot for each guest
+pub unreachable-requires-in_default-next : goal.unreachable-requires-in_default-next
+unreachable-requires-in_default-next c =
+    let i = c.loop-source.invariant in
+    let machine = c.args.machine.now in
+    let left = first_left (layout_of machine.shape) machine.lends in
+    let next = next-source machine c.args.plan.now c.args.sources c.loop-source.yielded _ _ c.in-Some.source c.requires.described c.requires.sources i.5 c.in-Some.ensures.steps.0 in
+    let lots = c.each_guest_has_its_lot.ensures.all c.args.table.now (layout_of machine.shape) left (map need_of machine.guests) c.args.lots.items c.requires.lots in
+    let needs = length-map machine.guests need_of in
     let few = next.few in
-    let small = next.small in
     let count = i.2.count in
-    let most = i.6 in
-    let guests = c.requires.described.few_guests in
-    omega (arith, few, small, count, most, guests)
+    let short : length (into_iter_items c.loop-source.lots) ≡ 0 = sym c.loop-source.lots.rest.ok.0 ∙ c.in_default-next.ensures.cases.0 in
+    no-more c.args.lots.items (length c.loop-source.guests.items) (ap (λ (l : List Lot). length l) (sym i.6) ∙ short) (omega (arith, lots, needs, few, count))
 
-pub overflow_add-next : goal.overflow_add-next
-overflow_add-next c =
-    let i = c.loop-image.invariant in
-    let next = next-image c.args.machine.now c.args.plan.now c.args.images c.loop-image.yielded _ _ c.in-Some.image c.requires.described c.requires.images i.5 c.in-Some.ensures.steps.0 in
-    let few = next.few in
-    let small = next.small in
-    let len = c.len-pages.ensures in
-    let count = i.2.count in
-    let most = i.6 in
-    let guests = c.requires.described.few_guests in
-    let sum : c.loop-image.next + c.len-pages.result < 2 ^ 32 = omega (arith, few, small, len, count, most, guests) in
-    search rules
+-- the lot that comes next is the guest's
+pub boot_one-requires-clause-lot : goal.boot_one-requires-clause-lot
+boot_one-requires-clause-lot c = λ spec e.
+    let i = c.loop-source.invariant in
+    let machine = c.args.machine.now in
+    let layout = layout_of machine.shape in
+    let left = first_left layout machine.lends in
+    let number : c.len-number.result ≡ length c.loop-source.guests.items = search rules in
+    let at : slice_get c.args.lots.items c.len-number.result ≡ Some c.in-Some-next-2.lot = next-lot c.args.lots.items _ (length c.loop-source.guests.items) c.in-Some-next-2.lot c.len-number.result number (sym i.6 ∙ c.in-Some-next-2.ensures.cases.0) in
+    (_, c.each_guest_has_its_lot.ensures.each c.args.table.now layout left (map need_of machine.guests) c.args.lots.items c.requires.lots c.len-number.result (need_of spec) c.in-Some-next-2.lot (map-get need_of machine.guests c.len-number.result spec e) at)
 
-pub loop-image-preserved : goal.loop-image-preserved
-loop-image-preserved c =
-    let i = c.loop-image.invariant in
+pub loop-source-preserved : goal.loop-source-preserved
+loop-source-preserved c =
+    let i = c.loop-source.invariant in
     let d = described_seen c.args.machine.now c.args.plan.now in
     let board = board_of c.args.seats in
-    let was = c.loop-image.guests.items in
+    let was = c.loop-source.guests.items in
     let guest = c.in_ok-boot_one.field-0 in
     let seat = c.in-Some-next.seat in
-    let left = into_iter_items c.next-in-loop-image.new.self in
-    let next = next-image c.args.machine.now c.args.plan.now c.args.images c.loop-image.yielded _ _ c.in-Some.image c.requires.described c.requires.images i.5 c.in-Some.ensures.steps.0 in
-    let small = next.small in
-    let len = c.len-pages.ensures in
-    let most = i.6 in
+    let left = into_iter_items c.next-in-loop-source.new.self in
+    let next = next-source c.args.machine.now c.args.plan.now c.args.sources c.loop-source.yielded _ _ c.in-Some.source c.requires.described c.requires.sources i.5 c.in-Some.ensures.steps.0 in
     let all = i.4 in
-    let taken : into_iter_items c.loop-image.seats ≡ seat ∷ left = c.in-Some-next.ensures.cases.0 in
+    let table = c.args.table.now in
+    let taken : into_iter_items c.loop-source.seats ≡ seat ∷ left = c.in-Some-next.ensures.cases.0 in
     let fewer = ap (λ (l : List Seat). length l) taken in
     let seats = subst (λ (l : List Seat). SeatsFrom board (length was) l) taken i.3 in
     let grown : c.push.new.self.items ≡ was ++ guest ∷ [] = search rules in
     let longer : length c.push.new.self.items ≡ length was + 1 = ap (λ (l : List Monitored). length l) grown ∙ length-append was (guest ∷ []) in
     let number : c.len-number.result ≡ length was = search rules in
-    let is : IsStarted d c.in-Some.image seat.board c.len-number.result guest = c.in_ok-boot_one.ensures in
-    let started-is : IsStarted d c.in-Some.image board (length was) guest = subst (λ n. IsStarted d c.in-Some.image board n guest) number (subst (λ b. IsStarted d c.in-Some.image b c.len-number.result guest) seats.0.board_is is) in (
+    let is : IsStarted d c.in-Some.source seat.board table c.len-number.result guest = c.in_ok-boot_one.ensures in
+    let started-is : IsStarted d c.in-Some.source board table (length was) guest = subst (λ n. IsStarted d c.in-Some.source board table n guest) number (subst (λ b. IsStarted d c.in-Some.source b table c.len-number.result guest) seats.0.board_is is) in (
       tt,
       tt,
-      subst (λ (l : List Monitored). AreBooted d (c.loop-image.yielded ++ c.in-Some.image ∷ []) board l) (sym grown) (booted-more d c.loop-image.yielded board was c.in-Some.image guest i.2 started-is),
+      subst (λ (l : List Monitored). AreBooted d (c.loop-source.yielded ++ c.in-Some.source ∷ []) board table l) (sym grown) (booted-more d c.loop-source.yielded board table was c.in-Some.source guest i.2 started-is),
       subst (λ n. SeatsFrom board n left) (sym longer) seats.1,
       omega (arith, longer, fewer, all),
-      append_assoc c.loop-image.yielded (c.in-Some.image ∷ []) _ ∙ ap (λ (l : List Image). c.loop-image.yielded ++ l) (sym c.in-Some.ensures.steps.0) ∙ i.5,
-      omega (arith, longer, small, len, most),
+      append_assoc c.loop-source.yielded (c.in-Some.source ∷ []) _ ∙ ap (λ (l : List Source). c.loop-source.yielded ++ l) (sym c.in-Some.ensures.steps.0) ∙ i.5,
+      rest-lots c.args.lots.items _ (length was) c.in-Some-next-2.lot (length c.push.new.self.items) longer (sym i.6 ∙ c.in-Some-next-2.ensures.cases.0),
     )

@@ -4,7 +4,11 @@ use Rattle.machine_desc.specs.declared.machine.GuestSpec.{GuestSpec}
 use Rattle.base_words.specs.declared.input.InputEntry.{InputEntry}
 use Rattle.machine_desc.specs.Bounds.{IsGuest}
 use Rattle.run_workers.proofs.WholeLemmas.{get-index, get-there, all-get}
+use Rattle.node_frames.specs.Layout.{layout_of}
+use Rattle.boot_frames.specs.Chain.{home_of}
+use Rattle.boot_frames.specs.Needs.{need_of}
 use Rattle.run_workers.proofs.BootLemmas.{may-start, started}
+use Rattle.run_workers.proofs.LotLemmas.{holds-for, is-around, fits-around}
 use Rattle.run_workers.proofs.TopLemmas.{on-ok}
 use Rattle.run_workers.proofs.booting.boot_one.Goals as goal
 
@@ -17,8 +21,29 @@ boot-requires-clause-may c =
     let same : there.0 ≡ spec = sym (get-index machine.guests c.args.number there.0 spec there.1).1 ∙ ap (λ (l : List GuestSpec). slice_index_or l c.args.number spec) (sym c.as_slice.ensures) ∙ is in
     let at : slice_get machine.guests c.args.number ≡ Some spec = there.1 ∙ ap Some same in
     let guest : IsGuest machine.shape.nodes spec = all-get (IsGuest machine.shape.nodes) machine.guests c.args.number spec c.requires.described.guests at in
-    let backed : length c.in_ok-frames.frames ≡ length c.args.image.pages = search rules in
-    may-start machine c.args.plan.now _ c.args.image spec spec.vcpus c.in_ok-frames.frames c.requires.described c.requires.built c.in_ok-site_of.ensures guest (c.requires.pages spec at) refl backed
+    let backed : length c.args.lot.frames ≡ length c.args.source.image.pages = (c.requires.lot spec at).1.pages.count ∙ sym (c.requires.source spec at).pages in
+    may-start machine c.args.plan.now _ c.args.source spec spec.vcpus c.args.lot.frames c.requires.described c.requires.built c.in_ok-site_of.ensures guest (c.requires.source spec at) refl refl backed
+
+-- the lot's holder is the guest's
+pub boot-requires-clause-holds : goal.boot-requires-clause-holds
+boot-requires-clause-holds c =
+    let machine = c.args.machine.now in
+    let table = c.args.table.now in
+    let layout = layout_of machine.shape in
+    let spec = c.index-as_slice-number.result in
+    let there = get-there machine.guests c.args.number c.requires.there in
+    let is : slice_index_or c.as_slice.result.now c.args.number spec ≡ spec = search rules in
+    let same : there.0 ≡ spec = sym (get-index machine.guests c.args.number there.0 spec there.1).1 ∙ ap (λ (l : List GuestSpec). slice_index_or l c.args.number spec) (sym c.as_slice.ensures) ∙ is in
+    let at : slice_get machine.guests c.args.number ≡ Some spec = there.1 ∙ ap Some same in
+    let lot = c.requires.lot spec at in
+    let need = need_of spec in
+    holds-for table layout (home_of layout need) c.args.lot _ c.requires.frames lot.1.pages.new
+    (record {
+      frames = c.a_lot_holds_its_frames.ensures.frames table layout lot.0 need c.args.lot lot.1;
+      under = c.a_lot_holds_its_frames.ensures.under table layout lot.0 need c.args.lot lot.1;
+      loans = c.a_lot_holds_its_frames.ensures.loans table layout lot.0 need c.args.lot lot.1;
+    })
+    refl (is-around machine _ spec c.in_ok-site_of.ensures refl)
 
 pub returns : goal.returns
 returns c =
@@ -36,5 +61,7 @@ returns c =
     let is-input : slice_index_or c.as_slice-2.result.now c.args.number input ≡ input = search rules in
     let same-input : typed.0 ≡ input = sym (get-index plan.input c.args.number typed.0 input typed.1).1 ∙ ap (λ (l : List (List InputEntry)). slice_index_or l c.args.number input) (sym c.as_slice-2.ensures) ∙ is-input in
     let at-input : slice_get plan.input c.args.number ≡ Some input = typed.1 ∙ ap Some same-input in
-    let backed : length c.in_ok-frames.frames ≡ length c.args.image.pages = search rules in
-    on-ok _ _ c.boot.result (λ guest starts. started machine plan _ c.args.image spec c.in_ok-frames.frames input c.args.seat c.args.number guest c.in_ok-site_of.ensures refl refl at at-input backed c.requires.seat.number_is starts) c.boot.ensures
+    let lot = c.requires.lot spec at in
+    let backed : length c.args.lot.frames ≡ length c.args.source.image.pages = lot.1.pages.count ∙ sym (c.requires.source spec at).pages in
+    let fits = fits-around c.args.table.now machine plan _ spec c.requires.described c.requires.frames c.requires.lends c.in_ok-site_of.ensures refl in
+    on-ok _ _ c.boot.result (λ guest starts. started machine plan _ c.args.source spec c.args.lot.frames input c.args.seat c.args.table.now c.args.lot.holder.table c.args.number guest c.in_ok-site_of.ensures refl refl at at-input backed c.requires.seat.number_is starts lot.1.made fits) c.boot.ensures

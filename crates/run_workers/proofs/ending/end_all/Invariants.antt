@@ -1,4 +1,4 @@
-use Rattle.std.proofs.Common.{◌≡◌, List, length}
+use Rattle.std.proofs.Common.{◌≡◌, List, [], length}
 use Rattle.std.specs.Vec.Iter.{into_iter_items}
 use Rattle.isolation_law.specs.GuestState.{GuestState}
 use Rattle.guest_lock.specs.Guests.{GuestsFrom}
@@ -9,5 +9,7 @@ abbrev pub invariant-loop-guest : goal.invariant-loop-guest
 invariant-loop-guest g l =
     (goal.iterator-loop-guest g).can_next l.guest-iterator
     × (goal.iterator-loop-guest g).is_finite l.guest-iterator
-    × GuestsFrom g.N.Starts.starts g.N.Starts.board (length l.records) (into_iter_items l.guest-iterator)
+    × GuestsFrom g.N.Starts.starts g.N.Starts.board g.N.Starts.table (length l.records) (into_iter_items l.guest-iterator)
     × ((states : List GuestState) × AreLeft g.N.Starts.starts g.N.Starts.board 0 states l.records l.seats)
+    × (l.first.view.holds ≡ [])
+    × (l.first.table ≡ l.initial.first.table)

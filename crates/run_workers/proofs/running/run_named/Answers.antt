@@ -1,6 +1,7 @@
 use Rattle.std.proofs.Common.{rules, ◌≡◌, ◌<◌, ◌++◌, map, Some, sym, subst, refl, ◌∙◌, ap, length, List, All, arith}
 use Rattle.std.specs.Prelude.{slice_index_or, slice_get}
 use Rattle.std.proofs.lemmas.List.{length-map, with_items_is}
+use Rattle.frame_words.specs.Holders.{MadeTable}
 use Rattle.shootdown.specs.Notes.{Token, Seat, AreInStep}
 use Rattle.isolation_law.specs.Start.{Boot}
 use Rattle.machine_desc.specs.declared.plan.Item.{Item}
@@ -25,8 +26,8 @@ use Rattle.run_workers.proofs.running.run_named.Goals as goal
 pub new-cells-requires : goal.new-cells-requires
 new-cells-requires g c =
     let board = board_of_tokens c.args.tokens in
-    subst (λ b. GuestsFrom g.N.Starts.starts b 0 c.args.guests.items) (sym c.requires.board)
-    (subst (λ (s : List Boot). GuestsFrom s board 0 c.args.guests.items) (sym c.requires.starts) (all-guests board c.args.guests.items c.requires.may.guests_are))
+    subst (λ b. GuestsFrom g.N.Starts.starts b g.N.Starts.table 0 c.args.guests.items) (sym c.requires.board)
+    (subst (λ (s : List Boot). GuestsFrom s board g.N.Starts.table 0 c.args.guests.items) (sym c.requires.starts) (subst (λ (t : MadeTable). GuestsFrom (map start_of c.args.guests.items) board t 0 c.args.guests.items) (sym c.requires.table) (all-guests board c.args.table.now c.args.guests.items c.requires.may.guests_are)))
 
 pub all_work-requires-clause-ready : goal.all_work-requires-clause-ready
 all_work-requires-clause-ready g c κs within = λ i d l.
@@ -49,7 +50,7 @@ close_notes-requires g c =
     let tokens-are : c.in_ok-tokens.tokens ≡ map token_of now = c.in_ok-tokens.ensures.tokens ∙ ap (map token_of) all in
     let made : map Some (slices_in c.in_ok-tokens.queues.items) ≡ map slices_of now = c.in_ok-tokens.ensures.slices ∙ ap (map slices_of) all in
     let done = done-at board c.args.plan.now.items c.args.tokens was now (slices_in c.in_ok-tokens.queues.items) may.tokens_are tokens c.all_work.ensures.all c.all_work.ensures.each made in
-    let left : AllLeft g.N.Starts.starts g.N.Starts.board c.in_ok-guests.guests c.in_ok-guests.seats = c.in_ok-guests.ensures in
+    let left : AllLeft g.N.Starts.starts g.N.Starts.board c.in_ok-guests.guests c.in_ok-guests.seats = c.in_ok-guests.ensures.left in
     record {
       board = board;
       of_tokens = subst (λ (l : List Token). All (λ (t : Token). t.board ≡ board) l) (sym tokens-are) (token-boards board (planned 0 c.args.plan.now.items) (slices_in c.in_ok-tokens.queues.items) (map token_of now) done);
@@ -69,8 +70,8 @@ in_order-requires g c = λ i d l.
     let on : All (IsOn (length c.in_ok-tokens.queues.items)) c.args.plan.now.items = subst (λ n. All (IsOn n) c.args.plan.now.items) count c.requires.may.on in
     subst (λ (l : List Item). All (IsOn (length c.in_ok-tokens.queues.items)) l) (sym c.as_slice.ensures) on i d l
 
-pub returns : goal.returns
-returns g c =
+pub returns-clause-run : goal.returns-clause-run
+returns-clause-run g c =
     let may = c.requires.may in
     let board = board_of_tokens c.args.tokens in
     let starts = map start_of c.args.guests.items in
@@ -86,7 +87,7 @@ returns g c =
     let tokens-are : c.in_ok-tokens.tokens ≡ map token_of now = c.in_ok-tokens.ensures.tokens ∙ ap (map token_of) all in
     let made : map Some queues ≡ map slices_of now = c.in_ok-tokens.ensures.slices ∙ ap (map slices_of) all in
     let done = done-at board items c.args.tokens was now queues may.tokens_are tokens c.all_work.ensures.all c.all_work.ensures.each made in
-    let left : AllLeft starts board lefts seats = subst (λ b. AllLeft starts b lefts seats) c.requires.board (subst (λ (s : List Boot). AllLeft s g.N.Starts.board lefts seats) c.requires.starts c.in_ok-guests.ensures) in
+    let left : AllLeft starts board lefts seats = subst (λ b. AllLeft starts b lefts seats) c.requires.board (subst (λ (s : List Boot). AllLeft s g.N.Starts.board lefts seats) c.requires.starts c.in_ok-guests.ensures.left) in
     let out = map token_of now in
     let many : length out ≡ length c.args.tokens = length-map now token_of ∙ c.all_work.ensures.all ∙ sym (length-map was token_of) ∙ ap length tokens in
     let states = state-count starts board 0 left.states lefts seats left.each ∙ left.count in

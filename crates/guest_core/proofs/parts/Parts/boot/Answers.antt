@@ -1,33 +1,38 @@
 -- The parts are those of the law's start.
-use Rattle.std.proofs.Common.{◌≡◌, List, [], refl, sym, ap, ◌∙◌, subst, arith}
+use Rattle.std.proofs.Common.{◌≡◌, ℕ, ◌<◌, List, [], None, Some, length, refl, sym, ap, ◌∙◌, subst, arith}
+use Rattle.std.proofs.lemmas.List.{length-map}
+use Rattle.base_words.specs.declared.events.End.{End}
+use Rattle.base_words.specs.declared.ids.CellId.{CellId}
 use Rattle.base_words.specs.declared.frame.Frame.{Frame}
 use Rattle.isolation_law.specs.GuestState.{GuestState}
 use Rattle.isolation_law.specs.Start.{Boot, start as started}
-use Rattle.guest_course.specs.BootCalls.{AreWhole, MayBoot, boot_of}
+use Rattle.guest_course.specs.BootCalls.{AreWhole, MayBoot, given_blocks, boot_of}
 use Rattle.guest_course.specs.CourseView.{state_of}
 use Rattle.guest_core.specs.GuestView.{loaded_count}
+use Rattle.guest_core.specs.Holding.{IsHolding}
 use Rattle.guest_core.specs.Kept.{Kept}
 use Rattle.guest_core.specs.Starting.{booted_with}
 use Rattle.guest_core.proofs.BootLemmas.{same-boot, may-boot, no-loads, kept-start}
 use Rattle.guest_core.proofs.EnterProofs.{of-these}
+use Rattle.guest_core.proofs.HoldingLemmas.{holding-start}
 use Rattle.guest_core.proofs.KeptProofs.{IsOff}
 use Rattle.guest_core.proofs.parts.Parts.boot.Goals as goal
 
 pub boot-requires : goal.boot-requires
 boot-requires c =
     let made = c.in_ok-frames.ensures in
-    subst (λ (l : List Frame). MayBoot c.args.around c.args.vcpus l) (sym made.filled)
-    (may-boot c.args.around c.args.image c.args.vcpus c.args.frames c.requires.may (subst AreWhole made.filled made.whole))
+    subst (λ (l : List Frame). MayBoot c.args.around c.args.vcpus l c.args.disk) (sym made.filled)
+    (may-boot c.args.around c.args.image c.args.vcpus c.args.frames c.args.disk c.requires.may (subst AreWhole made.filled made.whole))
 
 -- what the guest was started from
 abbrev from : goal.After-drop-frames-inside-2 → Boot
-from c = booted_with c.args.around c.args.image c.args.vcpus c.args.frames c.args.input.now
+from c = booted_with c.args.around c.args.image c.args.vcpus c.args.frames c.args.disk c.args.input.now
 
 state-is : (c : goal.After-drop-frames-inside-2) → state_of c.in_ok-boot.field-0 ≡ started (from c)
 state-is c =
     c.in_ok-boot.ensures.start
-    ∙ ap (λ (l : List Frame). started (boot_of c.args.around c.args.image.entry c.args.vcpus l c.args.input.now)) c.in_ok-frames.ensures.filled
-    ∙ ap started (same-boot c.args.around c.args.image c.args.vcpus c.args.frames c.args.input.now c.requires.may.backed)
+    ∙ ap (λ (l : List Frame). started (boot_of c.args.around c.args.image.entry c.args.vcpus l (given_blocks c.args.disk) c.args.input.now)) c.in_ok-frames.ensures.filled
+    ∙ ap started (same-boot c.args.around c.args.image c.args.vcpus c.args.frames c.args.disk c.args.input.now c.requires.may.backed)
 
 pub returns-clause-kept : goal.returns-clause-kept
 returns-clause-kept c =
@@ -43,15 +48,24 @@ returns-clause-kept c =
           (subst (λ (s : GuestState). Kept b s c.new.result.entries c.args.seat.notes) (sym state)
           (of-these b (started b) [] _ [] _ (ap (λ x. x.entries) c.new.ensures) c.requires.no_notes kept));
       goes_on = λ on. c.in_ok-boot.ensures.goes_on;
+      frames = record {
+        holding = subst (λ (s : GuestState). IsHolding s c.args.holder.view) (sym state) (holding-start b c.args.holder.view c.requires.holds);
+        given_back = λ end is. absurd (not-ended end (sym (ap (λ (s : GuestState). s.end) state) ∙ is));
+      };
+      at_home = subst (λ (x : Boot). x.around.home < length x.around.nodes) (sym start) (subst (λ (n : ℕ). c.args.around.home.0 < n) (sym (length-map c.args.around.site.shape.cells (λ (x : CellId). x.0) ∙ c.args.around.site.shape.has_cells)) c.requires.may.at_home);
       no_policy = subst (λ (x : Boot). IsOff x.around.policy) (sym start) c.requires.may.no_policy;
       unloads = omega (arith, none);
     }
+  where
+    not-ended : (end : End) → None ≡ Some end → ⊥
+    not-ended end is = cc
 
 pub returns-clause-start : goal.returns-clause-start
 returns-clause-start c = record {
   number_is = c.number-number.ensures;
   start_is = c.start.view_is ∙ c.of-start.ensures;
   board_is = refl;
+  table_is = refl;
   state_is = state-is c;
   no_entries = ap (λ x. x.entries) c.new.ensures;
   no_notes = c.requires.no_notes;

@@ -16,19 +16,21 @@ pub returns-clause-kept : goal.returns-clause-kept
 returns-clause-kept c =
     let old = c.args.self.now in
     let s = state_of old.course in
-    let t = state_of c.end.new.self in
+    let t = state_of c.close.new.course in
     let k = c.requires.kept in
     let w : Laws = record { halts = c.halts_stay.ensures.row; count = c.halts_stay.ensures.count; processors = c.halts_stay.ensures.processors; loaded = c.halts_stay.ensures.loaded; grows = c.run_grows.ensures.row; around = c.row_keeps.ensures.around } in
-    let leaves = end-leaves s t Budget c.requires.not_ended c.end.ensures.ends refl k.kept.nothing_due in
+    let leaves = end-leaves s t Budget c.requires.not_ended c.close.ensures.ends refl k.kept.nothing_due in
     let kept = kept-none w old.start s t old.journal.entries old.seat.notes (Ending Budget) k.kept leaves refl (λ r. refl) in
     let same = count-same s.processors t.processors (w.processors s t (Ending Budget) leaves.row) (λ r. w.loaded s t (Ending Budget) r leaves.row) in
     let room = two-entries _ _ _ c.requires.room in
-    let over : t.end ≡ Some Budget = ap (λ (x : GuestState). x.end) c.end.ensures.ends.after in
+    let over : t.end ≡ Some Budget = ap (λ (x : GuestState). x.end) c.close.ensures.ends.after in
     record {
-      sound = c.end.ensures.sound;
+      sound = c.close.ensures.sound;
       seat = k.seat;
       kept = subst (λ (j : List Event). Kept old.start t j old.seat.notes) (sym c.push.ensures.entries) kept;
       goes_on = λ on. absurd (no Budget (sym over ∙ on));
+      frames = c.close.ensures.frames;
+      at_home = k.at_home;
       no_policy = k.no_policy;
       unloads = omega (arith, same, room, c.push.ensures.room);
     }

@@ -4,15 +4,19 @@ use Rattle.base_words.specs.declared.events.Event.TheVariants.{Direct, Refill, E
 use Rattle.base_words.specs.declared.ids.ProcId.{ProcId}
 use Rattle.shootdown.specs.declared.notes.Note.TheVariants.{Made}
 use Rattle.shootdown.specs.Notes.{Seat, Token, sided}
+use Rattle.isolation_law.specs.GuestState.{GuestState}
 use Rattle.isolation_law.specs.Phases.{all_halted}
 use Rattle.isolation_law.specs.RefillRow.{Refills}
 use Rattle.isolation_law.specs.StepRows.{Emulates}
+use Rattle.isolation_law.specs.Surroundings.{Surroundings}
 use Rattle.guest_course.specs.CourseView.{state_of}
 use Rattle.guest_course.specs.StepCalls.{StepsDirect}
 use Rattle.guest_core.specs.GuestCalls.{processor_of, step_entries}
 use Rattle.guest_core.specs.GuestView.{guest_of}
+use Rattle.guest_core.specs.Holding.{FitsAround}
 use Rattle.guest_core.specs.TurnParts.{Advances, GoesOnThen}
 use Rattle.guest_core.specs.declared.advancing.Advanced.TheVariants as advances
+use Rattle.guest_core.proofs.HoldingLemmas.{frames-stay}
 use Rattle.guest_core.proofs.KeptProofs.{Laws, as-many}
 use Rattle.guest_core.proofs.EnterProofs.{kept-direct, kept-refill, kept-emulate, of-these, goes-on, same-loads, one-row, emulate-turn}
 use Rattle.guest_core.proofs.KeptProofs.{emulate-end}
@@ -40,6 +44,8 @@ returns-in-Direct-clause-kept c =
       seat = ap (λ (x : Seat). x.number) c.note.ensures.seat ∙ k.seat;
       kept = of-these old.start m _ _ _ _ (c.push_direct.ensures.entries ∙ ap (λ (p : ProcId). old.journal.entries ++ Direct p v ∷ []) same) (ap (λ (x : Seat). x.notes) c.note.ensures.seat ∙ ap (λ (p : ProcId). old.seat.notes ++ sided q.0 (Made (Direct p v)) ∷ []) same) kept;
       goes_on = λ on. subst (λ a. GoesOnThen m (Ok a)) c.in-Direct.is c.in_ok-access.ensures.goes_on;
+      frames = frames-stay s m _ (c.exchanges.ensures.steps s m q.0 v.0 did.row) (w.around s m (Direct q v) did.row) ((subst (λ a. GoesOnThen m (Ok a)) c.in-Direct.is c.in_ok-access.ensures.goes_on).not_ended ∙ sym did.row.goes_on.not_ended) k.frames;
+      at_home = k.at_home;
       no_policy = k.no_policy;
       unloads = omega (arith, loads, room, c.push_direct.ensures.room);
     }
@@ -76,6 +82,8 @@ returns-in-Refill-clause-kept c =
       seat = k.seat;
       kept = of-these old.start m _ _ _ _ (c.push.ensures.entries ∙ ap (λ (p : ProcId). old.journal.entries ++ Refill p ∷ []) same) refl kept;
       goes_on = λ on. subst (λ a. GoesOnThen m (Ok a)) c.in-Refill.is c.in_ok-access.ensures.goes_on;
+      frames = frames-stay s m _ (c.exchanges.ensures.refills s m q.0 did) (w.around s m (Refill q) did) (ap (λ (x : GuestState). x.end) did.after) k.frames;
+      at_home = k.at_home;
       no_policy = k.no_policy;
       unloads = omega (arith, loads, room, c.push.ensures.room);
     }
@@ -91,6 +99,30 @@ returns-in-Refill-clause-turns c =
     let same : c.number-processor.result ≡ q = ap (λ (n : ℕ). record { 0 = n }) c.number-processor.ensures in
     let did : Refills s q.0 m = subst (λ (n : ℕ). Advances s n v.0 m (Ok advances.Refill)) c.number-processor.ensures (subst (λ a. Advances s c.number-processor.result.0 v.0 m (Ok a)) c.in-Refill.is c.in_ok-access.ensures.advances) in
     record { journal = c.push.ensures.entries ∙ ap (λ (p : ProcId). old.journal.entries ++ Refill p ∷ []) same; run = one-row s m (Refill q) did }
+
+-- before the guest may end it has its frames as before
+pub conclude-requires-clause-fits : goal.conclude-requires-clause-fits
+conclude-requires-clause-fits c =
+    let old = c.args.self.now in
+    let token : Token = c.args.token.now in
+    let s = state_of old.course in
+    let m = state_of c.advance.new.course in
+    let q : ProcId = processor_of token in
+    let v = c.args.vcpu in
+    let did : Emulates s q.0 v.0 m = subst (λ (n : ℕ). Advances s n v.0 m (Ok advances.Emulate)) c.number-processor.ensures (subst (λ a. Advances s c.number-processor.result.0 v.0 m (Ok a)) c.in-Emulate.is c.in_ok-access.ensures.advances) in
+    let around = c.row_keeps.ensures.around s m (Emulate q v) (inl did) ∙ c.requires.kept.kept.around in
+    subst (λ (x : Surroundings). FitsAround c.args.resources.now.table.now x) (sym around) c.requires.table.fits
+
+pub conclude-requires-clause-frames : goal.conclude-requires-clause-frames
+conclude-requires-clause-frames c =
+    let old = c.args.self.now in
+    let token : Token = c.args.token.now in
+    let s = state_of old.course in
+    let m = state_of c.advance.new.course in
+    let q : ProcId = processor_of token in
+    let v = c.args.vcpu in
+    let did : Emulates s q.0 v.0 m = subst (λ (n : ℕ). Advances s n v.0 m (Ok advances.Emulate)) c.number-processor.ensures (subst (λ a. Advances s c.number-processor.result.0 v.0 m (Ok a)) c.in-Emulate.is c.in_ok-access.ensures.advances) in
+    frames-stay s m old.holder.view (c.exchanges.ensures.emulates s m q.0 v.0 did) (c.row_keeps.ensures.around s m (Emulate q v) (inl did)) (emulate-end s m q.0 v.0 did ∙ sym did.traps.goes_on.not_ended) c.requires.kept.frames
 
 pub returns-in-Emulate-clause-kept : goal.returns-in-Emulate-clause-kept
 returns-in-Emulate-clause-kept c =
@@ -117,6 +149,8 @@ returns-in-Emulate-clause-kept c =
       seat = ap (λ (x : Seat). x.number) c.note-in-Emulate.ensures.seat ∙ k.seat;
       kept = of-these old.start t _ _ _ _ (c.conclude.ensures.entries ∙ ap (λ (p : ProcId). old.journal.entries ++ step_entries p v halted) same) (ap (λ (x : Seat). x.notes) c.note-in-Emulate.ensures.seat ∙ ap (λ (p : ProcId). old.seat.notes ++ sided q.0 (Made (Emulate p v)) ∷ []) same) kept;
       goes_on = λ on. goes-on halted m t refl (emulate-end s m q.0 v.0 did) refl ends on;
+      frames = c.conclude.ensures.frames;
+      at_home = k.at_home;
       no_policy = k.no_policy;
       unloads = omega (arith, loads, loads', room, c.conclude.ensures.room);
     }
@@ -162,4 +196,4 @@ returns-in-Emulate-clause-room c =
     let loads = as-many w s m (Emulate q v) (inl did) (λ r. refl) in
     let loads' = same-loads halted w m t c.conclude.ensures.concludes in
     let ends = c.conclude.ensures in
-    rw (ends.print_room, ends.send_room, ends.cells) (less-room _ _ _ _ _ _ (omega (arith, loads, loads', ends.room)) (less-calls _ _ _ _ _ _ c.advance.ensures.print_room c.advance.ensures.send_room c.advance.ensures.cells))
+    rw (ends.devs, ends.cells) (less-room _ _ _ _ _ _ (omega (arith, loads, loads', ends.room)) (less-calls _ _ _ _ _ _ c.advance.ensures.print_room c.advance.ensures.send_room c.advance.ensures.cells))

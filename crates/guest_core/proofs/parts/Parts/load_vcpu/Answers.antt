@@ -5,10 +5,11 @@ use Rattle.base_words.specs.declared.events.Event.TheVariants.{Load}
 use Rattle.shootdown.specs.declared.notes.Note.TheVariants.{Made, Ended}
 use Rattle.shootdown.specs.declared.view.SidedNote.{SidedNote}
 use Rattle.shootdown.specs.Notes.{Seat, sided}
-use Rattle.isolation_law.specs.GuestState.{processor}
+use Rattle.isolation_law.specs.GuestState.{GuestState, processor}
 use Rattle.guest_course.specs.CourseView.{state_of}
 use Rattle.guest_core.specs.Kept.{Kept}
 use Rattle.guest_core.proofs.CountLemmas.{swapped}
+use Rattle.guest_core.proofs.HoldingLemmas.{frames-stay}
 use Rattle.guest_core.proofs.KeptProofs.{Laws, kept-one, kept-answer, load-leaves, one-more}
 use Rattle.guest_core.proofs.RoomLemmas.{two-entries}
 use Rattle.guest_core.proofs.parts.Parts.load_vcpu.Goals as goal
@@ -26,6 +27,8 @@ returns-in-Some-clause-kept c =
       seat = ap (λ (x : Seat). x.number) c.note.ensures.seat ∙ k.seat;
       kept = subst (λ (l : List SidedNote). Kept old.start s old.journal.entries l) (sym (ap (λ (x : Seat). x.notes) c.note.ensures.seat)) kept;
       goes_on = k.goes_on;
+      frames = k.frames;
+      at_home = k.at_home;
       no_policy = k.no_policy;
       unloads = k.unloads;
     }
@@ -53,6 +56,8 @@ returns-clause-kept c =
       kept = subst (λ (j : List Event). Kept old.start t j c.note-2.new.seat.notes) (sym c.push.ensures.entries)
           (subst (λ (l : List SidedNote). Kept old.start t (old.journal.entries ++ Load p v ∷ []) l) (sym (ap (λ (x : Seat). x.notes) c.note-2.ensures.seat ∙ ap (λ (side : ℕ). old.seat.notes ++ sided side (Made (Load p v)) ∷ []) (sym c.number-processor.ensures))) kept);
       goes_on = λ on. c.load.ensures.goes_on;
+      frames = frames-stay s t _ (c.exchanges.ensures.loads s t p.0 v.0 row) (w.around s t (Load p v) row) (ap (λ (x : GuestState). x.end) row.after) k.frames;
+      at_home = k.at_home;
       no_policy = k.no_policy;
       unloads = omega (arith, more, room, c.push.ensures.room);
     }

@@ -31,6 +31,8 @@ returns-in-Some-clause-kept c =
       seat = ap (λ (x : Seat). x.number) c.note.ensures.seat ∙ k.seat;
       kept = of-these old.start s _ _ _ _ refl (ap (λ (x : Seat). x.notes) c.note.ensures.seat) kept;
       goes_on = k.goes_on;
+      frames = k.frames;
+      at_home = k.at_home;
       no_policy = k.no_policy;
       unloads = k.unloads;
     }
@@ -50,6 +52,8 @@ returns-then-index-clause-kept c =
       seat = ap (λ (x : Seat). x.number) c.note-then-index.ensures.seat ∙ k.seat;
       kept = of-these old.start s _ _ _ _ refl (ap (λ (x : Seat). x.notes) c.note-then-index.ensures.seat) kept;
       goes_on = k.goes_on;
+      frames = k.frames;
+      at_home = k.at_home;
       no_policy = k.no_policy;
       unloads = k.unloads;
     }

@@ -1,21 +1,23 @@
 -- The parts are those of the law's start.
 use Rattle.std.proofs.Common.{◌≡◌, None, replicate, refl, sym, ap, ◌∙◌, subst}
 use Rattle.private_machine.specs.Policy.{no_misses}
+use Rattle.cow_disk.specs.DiskParts.{disk_of}
 use Rattle.guest_devs.specs.DeviceState.{fresh}
 use Rattle.page_policy.specs.Pages.{AreCounters}
 use Rattle.isolation_law.specs.Phases.{GoesOn}
 use Rattle.isolation_law.specs.Coherence.{Coherent}
-use Rattle.guest_course.specs.BootCalls.{boot_of}
+use Rattle.guest_course.specs.BootCalls.{given_blocks, boot_of}
 use Rattle.guest_course.proofs.BootProofs.{Booted, only-none, booted-state, booted-sound, is-boot, frames-fit}
 use Rattle.guest_course.proofs.course.Course.boot.Goals as goal
 
 pub free_places-requires : goal.free_places-requires
-free_places-requires c = frames-fit c.args.around c.args.vcpus c.args.frames c.requires
+free_places-requires c = frames-fit c.args.around c.args.vcpus c.args.frames c.args.disk c.requires
 
 booted : (c : goal.After-new-4) → Booted (record {
   around = c.args.around;
   vcpus = c.in_ok-vec.field-0;
   devs = c.in_ok-new.field-0;
+  disk = disk_of c.disk.inside;
   pmap = c.in_ok-boot.field-0;
   places = c.in_ok-places.places;
   seconds = c.in_ok-no_entries.field-0;
@@ -23,11 +25,12 @@ booted : (c : goal.After-new-4) → Booted (record {
   due = c.in_ok-vec-2.field-0;
   sent_from = c.new-4.result;
   ended = Rattle.std.proofs.Common.None;
-}) c.args.around c.args.entry c.args.vcpus c.args.frames c.args.input.now
+}) c.args.around c.args.entry c.args.vcpus c.args.frames c.args.disk c.args.input.now
 booted c = record {
   around_is = refl;
   vcpus_are = c.in_ok-vec.ensures.items_if_clones_equal (λ y e. e) ∙ ap (replicate c.args.vcpus) c.new.ensures;
   devs = c.in_ok-new.ensures ∙ ap (λ n. fresh c.args.vcpus n c.args.input.now) c.len-pages.ensures;
+  disk_is = c.disk.view_is;
   pages = c.in_ok-boot.ensures.pages;
   spares = c.in_ok-boot.ensures.spares;
   places = c.in_ok-places.ensures;
@@ -40,15 +43,17 @@ booted c = record {
 }
 
 pub returns-clause-start : goal.returns-clause-start
-returns-clause-start c = booted-state _ c.args.around c.args.entry c.args.vcpus c.args.frames c.args.input.now c.requires.whole (booted c)
+returns-clause-start c = booted-state _ c.args.around c.args.entry c.args.vcpus c.args.frames c.args.disk c.args.input.now c.requires (booted c)
 
 pub returns-clause-sound : goal.returns-clause-sound
 returns-clause-sound c =
-    let start = booted-state _ c.args.around c.args.entry c.args.vcpus c.args.frames c.args.input.now c.requires.whole (booted c) in
-    booted-sound _ c.args.around c.args.entry c.args.vcpus c.args.frames c.args.input.now c.requires (booted c)
-    (subst Coherent (sym start) (c.start_holds.ensures.coherent (boot_of c.args.around c.args.entry c.args.vcpus c.args.frames c.args.input.now) (is-boot c.args.around c.args.entry c.args.vcpus c.args.frames c.args.input.now c.requires)))
+    let start = booted-state _ c.args.around c.args.entry c.args.vcpus c.args.frames c.args.disk c.args.input.now c.requires (booted c) in
+    booted-sound _ c.args.around c.args.entry c.args.vcpus c.args.frames c.args.disk c.args.input.now c.requires (booted c)
+    (subst Coherent (sym start) (c.start_holds.ensures.coherent (boot_of c.args.around c.args.entry c.args.vcpus c.args.frames (given_blocks c.args.disk) c.args.input.now)
+    (is-boot c.args.around c.args.entry c.args.vcpus c.args.frames c.args.disk c.args.input.now c.requires)))
 
 pub returns-clause-goes_on : goal.returns-clause-goes_on
 returns-clause-goes_on c =
-    let start = booted-state _ c.args.around c.args.entry c.args.vcpus c.args.frames c.args.input.now c.requires.whole (booted c) in
-    subst GoesOn (sym start) (c.start_holds.ensures.goes_on (boot_of c.args.around c.args.entry c.args.vcpus c.args.frames c.args.input.now) (is-boot c.args.around c.args.entry c.args.vcpus c.args.frames c.args.input.now c.requires))
+    let start = booted-state _ c.args.around c.args.entry c.args.vcpus c.args.frames c.args.disk c.args.input.now c.requires (booted c) in
+    subst GoesOn (sym start) (c.start_holds.ensures.goes_on (boot_of c.args.around c.args.entry c.args.vcpus c.args.frames (given_blocks c.args.disk) c.args.input.now)
+    (is-boot c.args.around c.args.entry c.args.vcpus c.args.frames c.args.disk c.args.input.now c.requires))

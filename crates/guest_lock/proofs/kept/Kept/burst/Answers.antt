@@ -13,7 +13,10 @@ turn-requires-after_bounds g c κs within =
       omega arith,
       (
         subst (Fits g.N.Starts.starts g.N.Starts.board) (sym i.0.token) (record { board_is = c.requires.token.board_is; is_processor = c.requires.token.is_processor }),
-        λ e. c.requires.loaded (sym (shown-paused c.args.token.now g.row.G c.loop-turn.burst c.loop-turn.token i.0 paused) ∙ e),
+        (
+          λ e. c.requires.loaded (sym (shown-paused c.args.token.now g.row.G c.loop-turn.burst c.loop-turn.token i.0 paused) ∙ e),
+          c.requires.table,
+        ),
       ),
     )
 

@@ -1,0 +1,12 @@
+pub mod LoanLemmas
+pub mod ChainLemmas
+pub mod GainLemmas
+pub mod LowestLemmas
+pub mod FillLemmas
+pub mod TakeLemmas
+pub mod SplitLemmas
+pub mod ServeLemmas
+pub mod LotLemmas
+pub mod CountLemmas
+pub mod PagesLemmas
+pub mod AdmitLemmas

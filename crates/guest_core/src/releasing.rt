@@ -1,0 +1,57 @@
+//! A guest gives its frames back, and ends.
+ghost use Rattle.std.specs.Prelude.{◌≡◌, ◌<◌, [], length, slice_index_or};
+ghost use Rattle.frame_words.specs.Holders.{IsMade};
+ghost use Rattle.isolation_law.specs.EndRows.{MayEnd, Ends};
+ghost use Rattle.guest_course.specs.CourseView.{state_of};
+ghost use Rattle.guest_course.specs.CourseRules.{IsSound};
+ghost use Rattle.guest_course.specs.EndCalls.{GaveUp};
+ghost use Rattle.guest_core.specs.Holding.{IsHolding, HasFrames, FitsAround};
+
+use base_words::{CellId, End};
+use frame_words::{FrameTable, Holder, no_frame_and_no_loan_is_no_hold};
+use guest_course::{Around, Course};
+use node_frames::release;
+
+/// The cell of the guest's home node.
+fn home_cell(around: &Around) -> CellId
+    requires { around.now.home.0 < around.now.site.shape.nodes }
+    ensures { result ≡ slice_index_or around.now.site.shape.cells around.now.home.0 (record { 0 = 0 }) }
+{
+    around.site.shape.cells.as_slice()[around.home.0 as usize]
+}
+
+/// Gives all frames back, with their loans.
+fn release_all(course: &mut Course, holder: &mut Holder, table: &FrameTable)
+    requires made { IsMade table.now holder.old }
+    requires fits { FitsAround table.now (state_of course.old).around }
+    requires at_home { course.old.around.home.0 < course.old.around.site.shape.nodes }
+    requires holding { IsHolding (state_of course.old) holder.old.view }
+    ensures gave { GaveUp course.old course.new }
+    ensures given_back { holder.new.view.holds ≡ [] }
+    ensures same { holder.new.table ≡ holder.old.table }
+{
+    no_frame_and_no_loan_is_no_hold();
+    let home = home_cell(&course.around);
+    while let Some(frame) = course.pmap.give_up() {
+        release(table, holder, &course.around.site.shape, home, frame);
+    }
+}
+
+/// Ends a guest, which gives all frames back.
+pub(crate) fn close(course: &mut Course, holder: &mut Holder, table: &FrameTable, end: End)
+    requires sound { IsSound course.old }
+    requires may { MayEnd (state_of course.old) end }
+    requires made { IsMade table.now holder.old }
+    requires fits { FitsAround table.now (state_of course.old).around }
+    requires at_home { (state_of course.old).around.home < length (state_of course.old).around.nodes }
+    requires holding { IsHolding (state_of course.old) holder.old.view }
+    ensures sound { IsSound course.new }
+    ensures ends { Ends (state_of course.old) end (state_of course.new) }
+    ensures frames { HasFrames (state_of course.new) holder.new.view }
+    ensures devs { course.new.devs ≡ course.old.devs }
+    ensures cells { course.new.sent_from ≡ course.old.sent_from }
+    ensures same { holder.new.table ≡ holder.old.table }
+{
+    release_all(course, holder, table);
+    course.end(end);
+}
