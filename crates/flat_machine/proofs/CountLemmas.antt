@@ -1,5 +1,5 @@
 -- A guest keeps its number of virtual processors.
-use Rattle.std.proofs.Common.{◌≡◌, ℕ, ◌==◌, ◌/◌, ◌%◌, List, [], ◌∷◌, length, map, Bool, true, false, if◌then◌else◌, slice_index_or, Option, Some, None, Result, Ok, Err, arith, ap, ◌∙◌, refl}
+use Rattle.std.proofs.Common.{◌≡◌, ℕ, ◌==◌, ◌/◌, ◌%◌, List, [], ◌∷◌, length, Bool, true, false, if◌then◌else◌, slice_index_or, Option, Some, None, Result, Ok, Err, arith, ◌∙◌, refl}
 use Rattle.std.proofs.lemmas.List.{length-set, length-map}
 use Rattle.base_words.specs.declared.regs.Regs.{Regs}
 use Rattle.base_words.specs.declared.exception.Exception.{Exception}
@@ -15,7 +15,6 @@ use Rattle.base_words.specs.declared.place.Place.TheVariants.{Memory, Device}
 use Rattle.base_words.specs.declared.device.DeviceRegister.{DeviceRegister}
 use Rattle.base_words.specs.declared.device.DeviceRegister.TheVariants.{Console, Halt, Input, Queued, Number, Vcpus, Call, Answered, DiskBlock, DiskPage, DiskCommand, DiskStatus, SendPage, SendLength, Send, Armed, PacketLength, PacketSender, PacketTaken}
 use Rattle.base_words.specs.declared.device.Transfer.{Transfer}
-use Rattle.base_words.specs.Bits.{flag}
 use Rattle.base_words.specs.Instruction.{Effect, effect, with_register}
 use Rattle.base_words.specs.OpcodeMap.{decoded}
 use Rattle.base_words.specs.Memory.{word_at}
@@ -24,7 +23,7 @@ use Rattle.base_words.specs.Coprocessor.{register_at, writes, in_user_mode, inte
 use Rattle.private_machine.specs.declared.vcpu.Vcpu.{Vcpu}
 use Rattle.private_machine.specs.Vcpu.{with_registers, with_cp0, with_link, with_line_on, raising, ticking, system_done}
 use Rattle.private_machine.specs.DevicePage.{transfer_of, device_register}
-use Rattle.private_machine.specs.DeviceRegisters.{register_taken, with_arrived}
+use Rattle.private_machine.specs.DeviceRegisters.{register_taken}
 use Rattle.private_machine.specs.PrivateMachine.{PrivateMachine, vcpu, on_vcpu, with_devices, input_waits, left}
 use Rattle.private_machine.specs.Links.{line_of, is_linked, word_around, unlinked_page, page_filled, written}
 use Rattle.private_machine.specs.Signals.{called, signalled}

@@ -1,5 +1,5 @@
 -- A block of the disk becomes a page.
-use Rattle.std.proofs.Common.{◌≡◌, ℕ, ◌+◌, ◌*◌, ◌<◌, List, ◌++◌, length, take, drop, set, map, ap, sym, ◌∙◌, refl, arith}
+use Rattle.std.proofs.Common.{◌≡◌, ℕ, ◌+◌, ◌*◌, ◌<◌, List, ◌++◌, length, take, drop, set, ap, sym, ◌∙◌, arith}
 use Rattle.std.proofs.lemmas.List.{map-set, length-take, length-drop, drop_all, append-nil}
 use Rattle.std.proofs.lemmas.Bool.Decides.{nat_tests}
 use Rattle.std.specs.Global.{Box}

@@ -1,4 +1,3 @@
-pub mod ShownLemmas
 pub mod SoundLemmas
 pub mod MachineLemmas
 pub mod DiskLemmas

@@ -1,5 +1,5 @@
 -- Accesses that change a virtual processor twice, as the code changes it once.
-use Rattle.std.proofs.Common.{◌≡◌, ℕ, ◌-◌, ◌%◌, ◌<◌, List, length, get_or, set, Bool, true, false, Option, Some, None, Ok, ap, sym, ◌∙◌, arith}
+use Rattle.std.proofs.Common.{◌≡◌, ℕ, ◌%◌, ◌<◌, length, set, true, false, Option, Some, None, Ok, ap, sym, ◌∙◌, arith}
 use Rattle.std.proofs.lemmas.List.{get_or-set_same, set-set}
 use Rattle.base_words.specs.declared.place.Place.TheVariants.{Memory}
 use Rattle.base_words.specs.Memory.{word_at}
@@ -7,7 +7,7 @@ use Rattle.base_words.specs.Instruction.{advanced, with_register}
 use Rattle.private_machine.specs.declared.vcpu.Vcpu.{Vcpu}
 use Rattle.private_machine.specs.Vcpu.{no_vcpu, with_registers, with_link}
 use Rattle.private_machine.specs.PrivateMachine.{PrivateMachine, vcpu, on_vcpu, left}
-use Rattle.private_machine.specs.Links.{line_of, is_linked, word_offset, word_around, unlinked, unlinked_others, written}
+use Rattle.private_machine.specs.Links.{line_of, is_linked, word_offset, word_around, written}
 use Rattle.private_machine.specs.Access.{linked_load, if_linked, conditional_store}
 use Rattle.flat_machine.proofs.SoundLemmas.{length-unlinked_others, unlinked_others-own}
 

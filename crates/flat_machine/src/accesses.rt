@@ -32,6 +32,7 @@ impl Machine {
         requires within { offset < 4096 * self.old.pages }
         requires aligned { offset % 4 % load_unit_of kind ≡ 0 }
         ensures sound { IsSound self.new }
+        ensures ready { self.new.ready ≡ self.old.ready }
         ensures loaded { loaded (machine_of self.old) vcpu.0 (advanced (vcpu_at (machine_of self.old) vcpu.0).registers) kind target (Ok (Memory offset)) ≡ Ok (machine_of self.new) }
     {
         let word = self.word_around(offset);
@@ -52,6 +53,7 @@ impl Machine {
         requires sound { IsSound self.old }
         requires there { vcpu.0 < length (machine_of self.old).vcpus }
         ensures sound { IsSound self.new }
+        ensures ready { self.new.ready ≡ self.old.ready }
         ensures attempts { Attempts (requested (machine_of self.old) vcpu.0 (asks.Load kind address target)) (machine_of self.old) (machine_of self.new) result }
     {
         let place = self
@@ -127,6 +129,7 @@ impl Machine {
         requires sound { IsSound self.old }
         requires there { vcpu.0 < length (machine_of self.old).vcpus }
         ensures sound { IsSound self.new }
+        ensures ready { self.new.ready ≡ self.old.ready }
         ensures attempts { Attempts (requested (machine_of self.old) vcpu.0 (asks.LoadLinked address target)) (machine_of self.old) (machine_of self.new) result }
     {
         match self.vcpu(vcpu).place(self.pages, 4, Use::Load, address) {
@@ -148,6 +151,7 @@ impl Machine {
         requires physical { offset < 2 ^ 36 }
         requires aligned { offset % 4 % 4 ≡ 0 }
         ensures sound { IsSound self.new }
+        ensures ready { self.new.ready ≡ self.old.ready }
         ensures stored { conditional_store (machine_of self.old) vcpu.0 (advanced (vcpu_at (machine_of self.old) vcpu.0).registers) target value (Ok (Memory offset)) ≡ Ok (machine_of self.new) }
     {
         let line = line_of(offset);
@@ -170,6 +174,7 @@ impl Machine {
         requires sound { IsSound self.old }
         requires there { vcpu.0 < length (machine_of self.old).vcpus }
         ensures sound { IsSound self.new }
+        ensures ready { self.new.ready ≡ self.old.ready }
         ensures attempts { Attempts (requested (machine_of self.old) vcpu.0 (asks.StoreConditional address value target)) (machine_of self.old) (machine_of self.new) result }
     {
         match self.vcpu(vcpu).place(self.pages, 4, Use::Store, address) {

@@ -10,7 +10,6 @@ ghost use Rattle.flat_machine.specs.FlatView.{machine_of, IsSound};
 
 use crate::machine::Machine;
 use crate::memory::{set_word_around, word_around};
-use crate::registers;
 use base_words::{Cp0Op, Exception, Register, VcpuId};
 use private_machine::{Vcpu, unlink_others};
 
@@ -30,9 +29,10 @@ impl Machine {
         requires sound { IsSound self.old }
         requires there { vcpu.0 < length (machine_of self.old).vcpus }
         ensures sound { IsSound self.new }
+        ensures ready { self.new.ready ≡ self.old.ready }
         ensures put { machine_of self.new ≡ on_vcpu (machine_of self.old) vcpu.0 (λ c. with_registers (with_register (advanced c.registers) target value) c) }
     {
-        registers::put(&mut self.vcpus[vcpu.0 as usize], target, value);
+        mips_retire::put(&mut self.vcpus[vcpu.0 as usize], target, value);
     }
 
     /// The same of a linked load, whose line is linked from then on.
@@ -40,9 +40,10 @@ impl Machine {
         requires sound { IsSound self.old }
         requires there { vcpu.0 < length (machine_of self.old).vcpus }
         ensures sound { IsSound self.new }
+        ensures ready { self.new.ready ≡ self.old.ready }
         ensures put { machine_of self.new ≡ on_vcpu (machine_of self.old) vcpu.0 (λ c. with_link (Some line) (with_registers (with_register (advanced c.registers) target value) c)) }
     {
-        registers::put_linked(&mut self.vcpus[vcpu.0 as usize], target, value, line);
+        mips_retire::put_linked(&mut self.vcpus[vcpu.0 as usize], target, value, line);
     }
 
     /// The same of a conditional store, after which no line is linked.
@@ -50,9 +51,10 @@ impl Machine {
         requires sound { IsSound self.old }
         requires there { vcpu.0 < length (machine_of self.old).vcpus }
         ensures sound { IsSound self.new }
+        ensures ready { self.new.ready ≡ self.old.ready }
         ensures put { machine_of self.new ≡ on_vcpu (machine_of self.old) vcpu.0 (λ c. with_link None (with_registers (with_register (advanced c.registers) target value) c)) }
     {
-        registers::put_unlinked(&mut self.vcpus[vcpu.0 as usize], target, value);
+        mips_retire::put_unlinked(&mut self.vcpus[vcpu.0 as usize], target, value);
     }
 
     /// The instruction is passed.
@@ -64,7 +66,7 @@ impl Machine {
         ensures ready { self.new.ready ≡ self.old.ready }
         ensures passed { machine_of self.new ≡ on_vcpu (machine_of self.old) vcpu.0 (λ c. with_registers (advanced c.registers) c) }
     {
-        registers::pass(&mut self.vcpus[vcpu.0 as usize]);
+        mips_retire::pass(&mut self.vcpus[vcpu.0 as usize]);
     }
 
     /// MFC0.
@@ -72,9 +74,10 @@ impl Machine {
         requires sound { IsSound self.old }
         requires there { vcpu.0 < length (machine_of self.old).vcpus }
         ensures sound { IsSound self.new }
+        ensures ready { self.new.ready ≡ self.old.ready }
         ensures read { machine_of self.new ≡ on_vcpu (machine_of self.old) vcpu.0 (λ c. with_registers (with_register (advanced c.registers) target (reads c.cp0 (register_at number))) c) }
     {
-        registers::read_cp0(&mut self.vcpus[vcpu.0 as usize], number, target);
+        mips_retire::read_cp0(&mut self.vcpus[vcpu.0 as usize], number, target);
     }
 
     /// MTC0.
@@ -82,9 +85,10 @@ impl Machine {
         requires sound { IsSound self.old }
         requires there { vcpu.0 < length (machine_of self.old).vcpus }
         ensures sound { IsSound self.new }
+        ensures ready { self.new.ready ≡ self.old.ready }
         ensures written { machine_of self.new ≡ on_vcpu (machine_of self.old) vcpu.0 (λ c. with_cp0 (writes c.cp0 (register_at number) value) (with_registers (advanced c.registers) c)) }
     {
-        registers::write_cp0(&mut self.vcpus[vcpu.0 as usize], number, value);
+        mips_retire::write_cp0(&mut self.vcpus[vcpu.0 as usize], number, value);
     }
 
     /// An instruction of the TLB, or the return from an exception.
@@ -92,9 +96,10 @@ impl Machine {
         requires sound { IsSound self.old }
         requires there { vcpu.0 < length (machine_of self.old).vcpus }
         ensures sound { IsSound self.new }
+        ensures ready { self.new.ready ≡ self.old.ready }
         ensures done { machine_of self.new ≡ on_vcpu (machine_of self.old) vcpu.0 (λ c. system_done op (with_registers (passed_system op c.registers) c)) }
     {
-        registers::do_system(&mut self.vcpus[vcpu.0 as usize], op);
+        mips_retire::do_system(&mut self.vcpus[vcpu.0 as usize], op);
     }
 
     /// Takes an exception.
@@ -102,6 +107,7 @@ impl Machine {
         requires sound { IsSound self.old }
         requires there { vcpu.0 < length (machine_of self.old).vcpus }
         ensures sound { IsSound self.new }
+        ensures ready { self.new.ready ≡ self.old.ready }
         ensures raised { machine_of self.new ≡ on_vcpu (machine_of self.old) vcpu.0 (raising exception) }
     {
         self.vcpus[vcpu.0 as usize].raise(exception);
@@ -113,6 +119,7 @@ impl Machine {
         requires sound { IsSound self.old }
         requires there { vcpu.0 < length (machine_of self.old).vcpus }
         ensures sound { IsSound self.new }
+        ensures ready { self.new.ready ≡ self.old.ready }
         ensures ticked { machine_of self.new ≡ on_vcpu (machine_of self.old) vcpu.0 ticking }
     {
         self.vcpus[vcpu.0 as usize].tick();
@@ -136,6 +143,7 @@ impl Machine {
         requires within { offset < 4096 * self.old.pages }
         requires line { line ≡ line_of offset }
         ensures sound { IsSound self.new }
+        ensures ready { self.new.ready ≡ self.old.ready }
         ensures written { machine_of self.new ≡ written (machine_of self.old) vcpu.0 offset word }
     {
         set_word_around(&mut self.memory, self.pages, offset, word);

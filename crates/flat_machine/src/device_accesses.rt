@@ -34,6 +34,7 @@ impl Machine {
         requires sound { IsSound self.old }
         requires there { vcpu.0 < length (machine_of self.old).vcpus }
         ensures sound { IsSound self.new }
+        ensures ready { self.new.ready ≡ self.old.ready }
         ensures attempts { Attempts (device_loaded (machine_of self.old) vcpu.0 (advanced (vcpu_at (machine_of self.old) vcpu.0).registers) target (register_of offset)) (machine_of self.old) (machine_of self.new) result }
     {
         match self.devs.load_by(&mut self.vcpus, vcpu, offset) {
@@ -86,6 +87,7 @@ impl Machine {
         requires sound { IsSound self.old }
         requires there { vcpu.0 < length (machine_of self.old).vcpus }
         ensures sound { IsSound self.new }
+        ensures ready { self.new.ready ≡ self.old.ready }
         ensures done { machine_of self.new ≡ disk_done (machine_of self.old) vcpu.0 1 }
     {
         let transfer = self.devs.transfer(vcpu);
@@ -111,6 +113,7 @@ impl Machine {
         requires sound { IsSound self.old }
         requires there { vcpu.0 < length (machine_of self.old).vcpus }
         ensures sound { IsSound self.new }
+        ensures ready { self.new.ready ≡ self.old.ready }
         ensures done { machine_of self.new ≡ disk_done (machine_of self.old) vcpu.0 2 }
     {
         let transfer = self.devs.transfer(vcpu);

@@ -1,5 +1,6 @@
 //! A guest's private machine, one own event a call.
 ghost use Rattle.std.specs.Prelude.{◌≡◌, ◌*◌, ◌<◌, ◌≤◌, IfOk, OnOk, OnErr, length, map, replicate, option_map};
+ghost use Rattle.base_words.specs.declared.ids.Ppn.{Ppn};
 ghost use Rattle.private_machine.specs.Vcpu.{started};
 ghost use Rattle.private_machine.specs.PrivateMachine.{vcpu as vcpu_at};
 ghost use Rattle.private_machine.specs.PrivateRun.{booted, own_event};
@@ -8,7 +9,7 @@ ghost use Rattle.flat_machine.specs.FlatView.{blocks_of, disk_of, start_of};
 ghost use Rattle.flat_machine.specs.Attempts.{MayCome};
 
 use crate::machine::Machine;
-use base_words::{Blocks, Bytes, InputList, OwnEvent, Page, SentPacket, VcpuId};
+use base_words::{Blocks, Bytes, InputList, OwnEvent, Page, Ppn, SentPacket, VcpuId};
 use elf_image::Image;
 use guest_devs::Devs;
 use private_machine::Vcpu;
@@ -108,6 +109,13 @@ impl Flat {
             ready: _,
         } = self.machine;
         devs.into_lists().0
+    }
+
+    /// The page that is armed for a packet.
+    pub fn armed(&self) -> Option<Ppn>
+        ensures { option_map (λ (page : Ppn). page.0) result ≡ self.now.devices.armed }
+    {
+        self.machine.devs.armed()
     }
 
     /// Whether a virtual processor has halted.

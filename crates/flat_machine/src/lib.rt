@@ -7,7 +7,13 @@ mod device_accesses;
 mod flat;
 mod machine;
 mod memory;
-mod registers;
 mod stepping;
 
 pub use flat::Flat;
+
+#[cfg(test)]
+mod device_tests;
+#[cfg(test)]
+mod small_guests;
+#[cfg(test)]
+mod tests;

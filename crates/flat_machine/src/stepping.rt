@@ -184,6 +184,7 @@ impl Machine {
         requires some { 0 < length (machine_of self.old).vcpus }
         requires few { length bytes.now ≤ 4096 }
         ensures sound { IsSound self.new }
+        ensures ready { self.new.ready ≡ self.old.ready }
         ensures count { length (machine_of self.new).vcpus ≡ length (machine_of self.old).vcpus }
         ensures came { machine_of self.new ≡ own_packet (machine_of self.old) from.0 bytes.now }
     {

@@ -18,4 +18,14 @@ pub use merging::{
 pub use registers::{advance, read, write};
 
 #[cfg(test)]
+mod arithmetic_tests;
+#[cfg(test)]
+mod branch_tests;
+#[cfg(test)]
+mod memory_tests;
+#[cfg(test)]
+mod rig;
+#[cfg(test)]
 mod tests;
+#[cfg(test)]
+mod trap_tests;

@@ -1,4 +1,4 @@
-use Rattle.std.proofs.Common.{◌≡◌, map, length, replicate, ap, sym, ◌∙◌, false, None, Some, arith}
+use Rattle.std.proofs.Common.{◌≡◌, map, length, ap, sym, ◌∙◌, None, Some, arith}
 use Rattle.std.proofs.lemmas.List.{length-replicate}
 use Rattle.private_machine.specs.DevicePage.{nothing_set}
 use Rattle.private_machine.specs.Vcpu.{started}

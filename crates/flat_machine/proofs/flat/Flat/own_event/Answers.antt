@@ -1,4 +1,4 @@
-use Rattle.std.proofs.Common.{◌≡◌, ◌<◌, arith}
+use Rattle.std.proofs.Common.{arith}
 use Rattle.flat_machine.proofs.flat.Flat.own_event.Goals as goal
 
 pub invariant_of-self : goal.invariant_of-self

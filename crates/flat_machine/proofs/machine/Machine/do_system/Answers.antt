@@ -1,7 +1,7 @@
 use Rattle.std.proofs.Common.{ap, ◌∙◌}
 use Rattle.mips_alu.specs.Execution.{passed_system}
 use Rattle.private_machine.specs.Showing.{shown_by}
-use Rattle.flat_machine.proofs.ShownLemmas.{shown_by-system_done}
+use Rattle.mips_retire.proofs.ShownLemmas.{shown_by-system_done}
 use Rattle.flat_machine.proofs.SoundLemmas.{IsSound-with_item}
 use Rattle.flat_machine.proofs.machine.Machine.do_system.Goals as goal
 

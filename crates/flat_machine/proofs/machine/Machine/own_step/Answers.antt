@@ -1,4 +1,4 @@
-use Rattle.std.proofs.Common.{◌≡◌, length, ap, ◌∙◌, arith}
+use Rattle.std.proofs.Common.{length, ap, ◌∙◌, arith}
 use Rattle.std.proofs.lemmas.List.{length-set}
 use Rattle.private_machine.specs.PrivateMachine.{PrivateMachine}
 use Rattle.flat_machine.specs.FlatView.{machine_of}

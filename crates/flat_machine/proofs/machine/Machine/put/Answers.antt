@@ -1,4 +1,4 @@
-use Rattle.std.proofs.Common.{ap, ◌∙◌}
+use Rattle.std.proofs.Common.{ap}
 use Rattle.private_machine.specs.Showing.{shown_by}
 use Rattle.flat_machine.proofs.SoundLemmas.{IsSound-with_item}
 use Rattle.flat_machine.proofs.machine.Machine.put.Goals as goal

@@ -1,6 +1,6 @@
 use Rattle.std.proofs.Common.{ap, ◌∙◌}
 use Rattle.private_machine.specs.Showing.{shown_by}
-use Rattle.flat_machine.proofs.ShownLemmas.{shown_by-raising}
+use Rattle.mips_retire.proofs.ShownLemmas.{shown_by-raising}
 use Rattle.flat_machine.proofs.SoundLemmas.{IsSound-with_item}
 use Rattle.flat_machine.proofs.machine.Machine.raise.Goals as goal
 

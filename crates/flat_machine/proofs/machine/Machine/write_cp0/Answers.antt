@@ -3,7 +3,7 @@ use Rattle.base_words.specs.Instruction.{advanced}
 use Rattle.base_words.specs.Coprocessor.{register_at}
 use Rattle.private_machine.specs.Vcpu.{with_registers}
 use Rattle.private_machine.specs.Showing.{shown_by}
-use Rattle.flat_machine.proofs.ShownLemmas.{shown_by-writes}
+use Rattle.mips_retire.proofs.ShownLemmas.{shown_by-writes}
 use Rattle.flat_machine.proofs.SoundLemmas.{IsSound-with_item}
 use Rattle.flat_machine.proofs.machine.Machine.write_cp0.Goals as goal
 
