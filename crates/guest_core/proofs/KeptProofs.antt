@@ -2,7 +2,7 @@
 use Rattle.std.proofs.Common.{◌≡◌, inl, ℕ, zero, suc, ◌<◌, ◌==◌, if◌then◌else◌, Bool, true, false, List, [], ◌∷◌, ◌++◌, Option, Some, None, option_map, length, map, get_or, set, refl, sym, ap, ◌∙◌, subst}
 use Rattle.std.proofs.lemmas.List.{append-nil}
 use Rattle.base_words.specs.declared.events.Event.{Event}
-use Rattle.base_words.specs.declared.events.Event.TheVariants.{Direct, Refill, Emulate, Load, Unload, End as Ending}
+use Rattle.base_words.specs.declared.events.Event.TheVariants.{Direct, Refill, Emulate, Load, Unload, PacketIn, End as Ending}
 use Rattle.base_words.specs.declared.events.End.{End}
 use Rattle.base_words.specs.declared.ids.ProcId.{ProcId}
 use Rattle.base_words.specs.declared.ids.VcpuId.{VcpuId}
@@ -21,6 +21,7 @@ use Rattle.isolation_law.specs.GuestState.{GuestState, processor, vcpu_of, due_o
 use Rattle.isolation_law.specs.LoadRows.{Loads, Unloads}
 use Rattle.isolation_law.specs.LoadsIn.{loaded_after}
 use Rattle.isolation_law.specs.MachineEvent.{Row}
+use Rattle.isolation_law.specs.PacketRows.{Receives}
 use Rattle.isolation_law.specs.Parts.{Wish}
 use Rattle.isolation_law.specs.Policy.{chosen, due_after}
 use Rattle.isolation_law.specs.RefillRow.{Refills}
@@ -179,6 +180,9 @@ emulate-leaves s t p v row dead none = record {
 
 pub emulate-end : (s t : GuestState) (p v : ℕ) → Emulates s p v t → t.end ≡ None
 emulate-end s t p v row = ap (λ x. x.end) row.after ∙ act-end s p v _ ∙ row.traps.goes_on.not_ended
+
+pub receive-leaves : (s t : GuestState) (k : ℕ) → Receives s k t → ((r : ℕ) → due_on s r ≡ None) → Leaves s (PacketIn k) t
+receive-leaves s t k row none = record { row = inl row; dead = ap (λ x. x.dead) row.after; ends = none-ended s t row.delivered.goes_on.not_ended; due = λ r. ap (λ x. due_on x r) row.after ∙ none r }
 
 pub end-leaves : (s t : GuestState) (end : End) → s.end ≡ None → Ends s end t → t.dead ≡ s.dead → ((r : ℕ) → due_on s r ≡ None) → Leaves s (Ending end) t
 end-leaves s t end on row dead none = record { row = row; dead = dead; ends = none-ended s t on; due = λ r. ap (λ x. due_on x r) row.after ∙ due-map s.pages s.due r (none r) }

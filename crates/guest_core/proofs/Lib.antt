@@ -8,3 +8,5 @@ pub mod ReleaseLemmas
 pub mod KeptProofs
 pub mod RoomLemmas
 pub mod EnterProofs
+pub mod WiringProofs
+pub mod HandProofs

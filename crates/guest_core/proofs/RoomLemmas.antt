@@ -14,5 +14,5 @@ less-room room loaded calls room' loaded' calls' a b = omega (arith, a, b)
 pub same-room : (room loaded calls room' loaded' : ℕ) → room + loaded' ≤ room' + loaded → min (room - loaded) (2 * calls) ≤ min (room' - loaded') (2 * calls)
 same-room room loaded calls room' loaded' a = omega (arith, a)
 
-pub less-calls : (print send cells print' send' cells' : ℕ) → print ≤ print' + 1 → send ≤ send' + 1 → cells ≤ cells' + 1 → min (min print send) cells ≤ min (min print' send') cells' + 1
-less-calls print send cells print' send' cells' a b c = omega (arith, a, b, c)
+pub less-calls : (print send cells print' send' cells' received : ℕ) → print ≤ print' + 1 → send ≤ send' + 1 → cells ≤ cells' + 1 → min (min (min print send) cells) received ≤ min (min (min print' send') cells') received + 1
+less-calls print send cells print' send' cells' received a b c = omega (arith, a, b, c)

@@ -9,13 +9,15 @@ use Rattle.shootdown.specs.declared.view.SidedNote.{SidedNote}
 use Rattle.isolation_law.specs.GuestState.{GuestState}
 use Rattle.isolation_law.specs.Parts.{Processor}
 use Rattle.isolation_law.specs.Start.{Boot, start as started}
+use Rattle.wire_queue.specs.Between.{Made}
+use Rattle.wire_queue.specs.declared.lists.PassList.{PassList}
 use Rattle.guest_course.specs.declared.course.Course.{Course}
 use Rattle.guest_course.specs.CourseView.{state_of}
 use Rattle.guest_core.specs.declared.parts.Parts.{Parts}
 use Rattle.guest_core.specs.Holding.{FitsAround}
 
 -- a guest: its number, what it was started from, the board that made its seat, the table that made its holder; its state, the journal
--- that led to it, its seat's notes, its holder's view; and the room that was made for its calls
+-- that led to it, its seat's notes, its holder's view; the wires of all guests and its ends of them; and the room that was made for its calls
 pub record Monitored : Type 0 where
   pub number : ℕ
   pub start : Boot
@@ -25,6 +27,8 @@ pub record Monitored : Type 0 where
   pub journal : List Event
   pub notes : List SidedNote
   pub view : View
+  pub wires : Made
+  pub passes : PassList
   pub room : ℕ
 
 abbrev pub is_loaded : Processor → Bool
@@ -34,9 +38,9 @@ is_loaded p = is_some p.loaded
 abbrev pub loaded_count : GuestState → ℕ
 loaded_count s = count_by is_loaded s.processors
 
--- for how many calls all but the journal has room: each may print a byte and send a packet, with its cell
+-- for how many calls all but the journal has room: each may print a byte, send a packet, with its cell, and receive one
 abbrev pub calls_room : Course → ℕ
-calls_room c = min (min c.devs.print_room c.devs.send_room) (vec_capacity c.sent_from - vec_len c.sent_from)
+calls_room c = min (min (min c.devs.print_room c.devs.send_room) (vec_capacity c.sent_from - vec_len c.sent_from)) (vec_capacity c.received - vec_len c.received)
 
 -- the journal's free places that no later unload needs, or twice the calls for which there is room, whichever is less
 abbrev pub room_of : ℕ → Course → ℕ
@@ -52,23 +56,37 @@ guest_of g = record {
   journal = g.journal.entries;
   notes = g.seat.notes;
   view = g.holder.view;
+  wires = g.wiring.wires.value;
+  passes = g.wiring.passes;
   room = room_of g.journal.room g.course;
 }
 
--- number, start, board and table stay
+-- number, start, board, table and wires stay, and whose the ends of the wires are
 pub record IsSameGuest (old new : Monitored) : Type 0 where
   pub number : new.number ≡ old.number
   pub start : new.start ≡ old.start
   pub board : new.board ≡ old.board
   pub table : new.table ≡ old.table
+  pub wires : new.wires ≡ old.wires
+  pub own : new.passes.guest ≡ old.passes.guest
 
 -- the table made the guest's holder, and is of the machine around it
 pub record IsTableOf (table : MadeTable) (g : Monitored) : Type 0 where
   pub made : g.table ≡ table.id
   pub fits : FitsAround table g.start.around
 
+-- what the guests of a machine share: the table of their frames, and the wires between them
+pub record Shared : Type 0 where
+  pub table : MadeTable
+  pub wires : Made
+
+-- they are those of a guest
+pub record AreOf (shared : Shared) (g : Monitored) : Type 0 where
+  pub table : IsTableOf shared.table g
+  pub wires : g.wires ≡ shared.wires
+
 -- a guest at its start, without notes
-pub record IsAtStart (number : ℕ) (b : Boot) (board table : TableId) (g : Monitored) : Type 0 where
+pub record IsAtStart (number : ℕ) (b : Boot) (board table : TableId) (wires : Made) (passes : PassList) (g : Monitored) : Type 0 where
   pub number_is : g.number ≡ number
   pub start_is : g.start ≡ b
   pub board_is : g.board ≡ board
@@ -76,3 +94,5 @@ pub record IsAtStart (number : ℕ) (b : Boot) (board table : TableId) (g : Moni
   pub state_is : g.state ≡ started b
   pub no_entries : g.journal ≡ []
   pub no_notes : g.notes ≡ []
+  pub wires_are : g.wires ≡ wires
+  pub passes_are : g.passes ≡ passes

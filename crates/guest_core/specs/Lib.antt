@@ -1,8 +1,10 @@
 pub mod Starting
 pub mod Holding
+pub mod Wiring
 pub mod GuestView
 pub mod Noting
 pub mod Kept
 pub mod GuestCalls
+pub mod PacketCalls
 pub mod Records
 pub mod TurnParts

@@ -42,6 +42,7 @@ pub record MayStart (around : Around) (image : Image) (vcpus : ℕ) (frames : Li
   pub backed : length frames ≡ length image.pages
   pub no_policy : (around.site.policy.migrate ≡ 0) × (around.site.policy.replicate ≡ 0)
   pub few_processors : length around.site.processors ≤ 16
+  pub few_guests : length around.site.homes ≤ 8
   pub few_frames : around.site.shape.nodes * around.site.shape.frames < 2 ^ 32
   pub on_nodes : AllBelow around.site.shape.nodes around.site.processors
   pub at_home : around.home.0 < around.site.shape.nodes

@@ -1,5 +1,5 @@
 -- What a turn does to the parts of a guest.
-use Rattle.std.specs.Prelude.{◌≡◌, ℕ, Bool, true, false, None, Result, Ok, Err}
+use Rattle.std.specs.Prelude.{◌≡◌, ℕ, ◌++◌, Bool, true, false, Option, None, IfSome, Result, Ok, Err}
 use Rattle.std.specs.declared.alloc.AllocError.{AllocError}
 use Rattle.base_words.specs.declared.events.End.TheVariants.{Halted as ByHalt}
 use Rattle.isolation_law.specs.GuestState.{GuestState, vcpu_of}
@@ -7,6 +7,9 @@ use Rattle.isolation_law.specs.EndRows.{Ends}
 use Rattle.isolation_law.specs.Phases.{GoesOn}
 use Rattle.isolation_law.specs.RefillRow.{Refills}
 use Rattle.isolation_law.specs.StepRows.{Emulates}
+use Rattle.isolation_law.specs.WireHistory.{sent_to}
+use Rattle.guest_course.specs.declared.posting.Outgoing.{Outgoing}
+use Rattle.guest_course.specs.Posting.{IsOther, put_on, Goes}
 use Rattle.guest_course.specs.StepCalls.{StepsDirect}
 use Rattle.guest_core.specs.declared.advancing.Advanced.{Advanced}
 use Rattle.guest_core.specs.declared.advancing.Advanced.TheVariants as advances
@@ -15,15 +18,30 @@ use Rattle.guest_core.specs.declared.advancing.Advanced.TheVariants as advances
 abbrev pub Advances : GuestState → ℕ → ℕ → GuestState → Result Advanced AllocError → Type 0
 Advances s p v t (Ok (advances.Direct access)) = StepsDirect s p v t access
 Advances s p v t (Ok advances.Refill) = Refills s p t
-Advances s p v t (Ok advances.Emulate) = Emulates s p v t
+Advances s p v t (Ok (advances.Emulate out)) = Emulates s p v t
 Advances s p v t (Err e) = t ≡ s
 
 -- a guest goes on after a step that a processor makes by itself, after a refill, and where memory is wanting
 abbrev pub GoesOnThen : GuestState → Result Advanced AllocError → Type 0
 GoesOnThen t (Ok (advances.Direct access)) = GoesOn t
 GoesOnThen t (Ok advances.Refill) = GoesOn t
-GoesOnThen t (Ok advances.Emulate) = Unit {0}
+GoesOnThen t (Ok (advances.Emulate out)) = Unit {0}
 GoesOnThen t (Err e) = GoesOn t
+
+-- what goes on a wire by it
+abbrev pub out_of : Result Advanced AllocError → Option Outgoing
+out_of (Ok (advances.Direct access)) = None
+out_of (Ok advances.Refill) = None
+out_of (Ok (advances.Emulate out)) = out
+out_of (Err e) = None
+
+-- to each other guest was sent just what goes on its wire, and nothing was taken
+pub record Posts (s : GuestState) (out : Option Outgoing) (t : GuestState) : Type 0 where
+  pub sends : (to : ℕ) → IsOther s to → sent_to t to ≡ sent_to s to ++ put_on out to
+  pub goes : IfSome out (Goes s)
+  pub received : t.received ≡ s.received
+  pub discarded : t.discarded ≡ s.discarded
+  pub hand : t.hand ≡ s.hand
 
 -- the guest ends where its virtual processors have all halted
 abbrev pub Concludes : Bool → GuestState → GuestState → Type 0

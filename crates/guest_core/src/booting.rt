@@ -5,9 +5,13 @@ ghost use Rattle.guest_core.specs.Starting.{booted_with, filled, MayStart};
 ghost use Rattle.guest_core.specs.Holding.{HoldsFor};
 ghost use Rattle.guest_core.specs.GuestView.{guest_of, IsAtStart};
 ghost use Rattle.guest_core.specs.Kept.{IsKept};
+ghost use Rattle.guest_core.specs.Wiring.{IsWired};
+ghost use Rattle.wire_queue.specs.PassLists.{IsUnused};
+ghost use Rattle.guest_course.specs.CourseView.{surroundings};
 
 use crate::parts::Parts;
 use crate::start::Start;
+use crate::wiring::Wiring;
 use base_words::{Frame, FrameList, GuestId, InputList, PageList};
 use cow_disk::Disk;
 use elf_image::Image;
@@ -17,6 +21,7 @@ use guest_course::{Around, Course};
 use isolation_law::{run_grows, start_holds};
 use shootdown::GuestSeat;
 use std::alloc::{AllocError, Global};
+use wire_queue::{PassList, Wires};
 
 /// These frames, each with the bytes of the page at its place.
 fn fill(alloc: Global, frames: &FrameList, pages: PageList) -> Result<FrameList, AllocError>
@@ -39,7 +44,8 @@ fn fill(alloc: Global, frames: &FrameList, pages: PageList) -> Result<FrameList,
 
 impl Parts {
     /// What is kept of the guest of this seat at its start: so many virtual processors, of which none is loaded, and the image's pages, each in the
-    /// next of these frames, with this disk. The holder holds these frames.
+    /// next of these frames, with this disk. The holder holds these frames,
+    /// and the guest's ends of the wires are new.
     pub(crate) fn boot(
         alloc: Global,
         image: Image,
@@ -50,12 +56,16 @@ impl Parts {
         disk: Disk,
         holder: Holder,
         seat: GuestSeat,
+        wires: &Wires,
+        passes: PassList,
     ) -> Result<Self, AllocError>
         requires may { MayStart around image vcpus frames disk }
         requires holds { HoldsFor (booted_with around image vcpus frames disk input.now) holder.view }
         requires no_notes { seat.notes ≡ [] }
+        requires wired { IsWired wires.now passes (surroundings around) }
+        requires unused { IsUnused passes }
         ensures kept { IfOk result IsKept }
-        ensures start { IfOk result (λ g. IsAtStart seat.number (booted_with around image vcpus frames disk input.now) seat.board holder.table (guest_of g)) }
+        ensures start { IfOk result (λ g. IsAtStart seat.number (booted_with around image vcpus frames disk input.now) seat.board holder.table wires.now passes (guest_of g)) }
     {
         start_holds();
         run_grows();
@@ -70,6 +80,7 @@ impl Parts {
             holder,
             journal: Journal::new(alloc),
             seat,
+            wiring: Wiring::of(wires, passes),
         })
     }
 }

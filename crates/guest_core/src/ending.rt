@@ -2,6 +2,7 @@
 ghost use Rattle.std.specs.Prelude.{◌≡◌, ◌≢◌, ◌≤◌, [], ◌∷◌, None};
 ghost use Rattle.base_words.specs.declared.events.Event.TheVariants.{End as Ending};
 ghost use Rattle.base_words.specs.declared.events.End.TheVariants.{Budget};
+ghost use Rattle.isolation_law.specs.EndRows.{Ends};
 ghost use Rattle.guest_core.specs.GuestView.{guest_of, IsSameGuest, IsTableOf};
 ghost use Rattle.guest_core.specs.Kept.{IsKept};
 ghost use Rattle.guest_core.specs.GuestCalls.{Makes};
@@ -12,8 +13,9 @@ use crate::releasing::close;
 use crate::{GuestRecord, Resources};
 use base_words::{End, Event, Sequence};
 use frame_words::Holder;
-use isolation_law::{halts_stay, row_keeps, run_grows};
+use isolation_law::{halts_stay, row_keeps, run_grows, takes};
 use shootdown::GuestSeat;
+use wire_queue::PassList;
 
 impl Parts {
     /// Ends a guest that hasn't ended, since the plan is done.
@@ -24,12 +26,15 @@ impl Parts {
         requires not_ended { (guest_of self.old).state.end ≡ None }
         ensures kept { IsKept self.new }
         ensures makes { Makes (guest_of self.old) (Ending Budget ∷ []) (guest_of self.new) }
+        ensures row { Ends (guest_of self.old).state Budget (guest_of self.new).state }
         ensures notes { self.new.seat ≡ self.old.seat }
+        ensures passes { self.new.wiring ≡ self.old.wiring }
         ensures same { IsSameGuest (guest_of self.old) (guest_of self.new) }
     {
         halts_stay();
         row_keeps();
         run_grows();
+        takes();
         close(
             &mut self.course,
             &mut self.holder,
@@ -39,15 +44,16 @@ impl Parts {
         self.journal.push(Event::End(End::Budget));
     }
 
-    /// What a guest that has ended leaves: its record, its holder with nothing, and its seat with its notes.
-    pub(crate) fn into_record(self) -> (GuestRecord, Holder, GuestSeat)
+    /// What a guest that has ended leaves: its record, its holder with nothing, its ends of the wires, and its seat with its notes.
+    pub(crate) fn into_record(self) -> (GuestRecord, Holder, PassList, GuestSeat)
         requires kept { IsKept self }
         requires ended { (guest_of self).state.end ≢ None }
         ensures left { IsRecord self.start (guest_of self).state result.0 }
         ensures journal { result.0.journal.entries ≡ self.journal.entries }
         ensures table { result.1.table ≡ self.holder.table }
         ensures given_back { result.1.view.holds ≡ [] }
-        ensures seat { result.2 ≡ self.seat }
+        ensures passes { result.2 ≡ self.wiring.passes }
+        ensures seat { result.3 ≡ self.seat }
     {
         let Parts {
             number: _,
@@ -56,6 +62,7 @@ impl Parts {
             holder,
             journal,
             seat,
+            wiring,
         } = self;
         let end = course.ended.unwrap();
         let (console, sent) = course.devs.into_lists();
@@ -64,8 +71,11 @@ impl Parts {
             console,
             sent,
             cells: Sequence::from_vec(course.sent_from),
+            received: Sequence::from_vec(course.received),
+            discarded: Sequence::from_vec(course.discarded),
+            in_hand: course.hand,
             end,
         };
-        (record, holder, seat)
+        (record, holder, wiring.passes, seat)
     }
 }

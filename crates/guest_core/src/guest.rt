@@ -5,16 +5,22 @@ ghost use Rattle.base_words.specs.declared.events.Event.TheVariants.{Unload, End
 ghost use Rattle.base_words.specs.declared.events.End.TheVariants.{Budget};
 ghost use Rattle.shootdown.specs.declared.notes.Note.TheVariants.{Made};
 ghost use Rattle.shootdown.specs.Notes.{with_side};
+ghost use Rattle.isolation_law.specs.EndRows.{Ends};
 ghost use Rattle.isolation_law.specs.GuestState.{processor as processor_at};
 ghost use Rattle.guest_core.specs.Starting.{booted_with, MayStart};
 ghost use Rattle.guest_core.specs.Holding.{HasFrames, HoldsFor};
 ghost use Rattle.guest_core.specs.GuestView.{IsAtStart, IsSameGuest, IsTableOf};
 ghost use Rattle.guest_core.specs.Noting.{IsNoted, shows_loaded};
 ghost use Rattle.guest_core.specs.GuestCalls.{Makes, Stays, Learns, LoadsVcpu, told_of_load, MayNote, processor_of, loaded_on, Turns, told_of_turn};
+ghost use Rattle.guest_core.specs.PacketCalls.{KeepsEnds, SameSends, TakesPacket};
 ghost use Rattle.guest_core.specs.Records.{IsRecord};
+ghost use Rattle.guest_core.specs.Wiring.{IsWired, Posted};
+ghost use Rattle.guest_course.specs.CourseView.{surroundings};
+ghost use Rattle.wire_queue.specs.ListSteps.{HasTaken};
+ghost use Rattle.wire_queue.specs.PassLists.{IsUnused};
 
 use crate::parts::Parts;
-use crate::{GuestRecord, Loaded, Resources, Turn};
+use crate::{GuestRecord, Loaded, Packeted, Resources, Turn};
 use base_words::{End, FrameList, InputList, VcpuId};
 use cow_disk::Disk;
 use elf_image::Image;
@@ -23,9 +29,11 @@ use guest_course::Around;
 use shootdown::{GuestSeat, ProcToken};
 use std::alloc::{AllocError, Global};
 use std::marker::Model;
+use std::sync::Wait;
+use wire_queue::{PassList, Wires};
 
-/// A guest. Contracts see its number, what it was started from, its state and journal, its seat's notes, what its holder holds, and the
-/// room that was made.
+/// A guest. Contracts see its number, what it was started from, its state and journal, its seat's notes, what its holder holds, its
+/// ends of the wires, and the room that was made.
 #[derive(Drop)]
 pub struct Guest {
     parts: Parts,
@@ -46,7 +54,8 @@ impl Model for Guest {
 
 impl Guest {
     /// The guest of this seat, at its start: so many virtual processors, of which none is loaded, and the image's pages, each in the
-    /// next of these frames, with this disk. The holder holds these frames, with a loan for each that lies outside the home cell.
+    /// next of these frames, with this disk. The holder holds these frames, with a loan for each that lies outside the home cell,
+    /// and these are its ends of the wires, of which none was used.
     pub fn boot(
         alloc: Global,
         image: Image,
@@ -57,15 +66,19 @@ impl Guest {
         disk: Disk,
         holder: Holder,
         seat: GuestSeat,
+        wires: &Wires,
+        passes: PassList,
     ) -> Result<Self, AllocError>
         requires may { MayStart around image vcpus frames disk }
         requires holds { HoldsFor (booted_with around image vcpus frames disk input.now) holder.view }
         requires no_notes { seat.notes ≡ [] }
-        ensures { IfOk result (λ g. IsAtStart seat.number (booted_with around image vcpus frames disk input.now) seat.board holder.table g) }
+        requires wired { IsWired wires.now passes (surroundings around) }
+        requires unused { IsUnused passes }
+        ensures { IfOk result (λ g. IsAtStart seat.number (booted_with around image vcpus frames disk input.now) seat.board holder.table wires.now passes g) }
     {
         Ok(Guest {
             parts: Parts::boot(
-                alloc, image, around, vcpus, input, frames, disk, holder, seat,
+                alloc, image, around, vcpus, input, frames, disk, holder, seat, wires, passes,
             )?,
         })
     }
@@ -85,6 +98,7 @@ impl Guest {
         ensures same { IsSameGuest self.old self.new }
         ensures stays { Stays self.old self.new }
         ensures notes { self.new.notes ≡ self.old.notes }
+        ensures passes { self.new.passes ≡ self.old.passes }
         ensures room { OnOk result (2 ≤ self.new.room) }
     {
         self.parts.make_room()
@@ -135,14 +149,16 @@ impl Guest {
     /// `VcpuHalted` exactly where it has halted; else one step of its own or one refill. Want of memory comes only at a send or a disk write,
     /// and then no entry was made. The step that halts the last virtual processor ends the guest, which gives all its frames back.
     #[inline]
-    pub fn turn(
+    pub fn turn<R: Wait>(
         &mut self,
+        rt: &R,
         alloc: Global,
         token: &mut ProcToken,
         resources: &Resources,
     ) -> Result<Turn, AllocError>
         requires room { 2 ≤ self.old.room }
         requires table { IsTableOf resources.now.table.now self.old }
+        requires wires { self.old.wires ≡ resources.now.wires.now }
         requires token { MayNote self.old token.old }
         requires loaded { (processor_at self.old.state token.old.number).loaded ≢ None }
         requires before { self.old.state.end ≢ Some Budget }
@@ -151,7 +167,35 @@ impl Guest {
         ensures same { IsSameGuest self.old self.new }
         ensures room { self.old.room ≤ self.new.room + 2 }
     {
-        self.parts.turn(alloc, token, resources)
+        self.parts.turn(rt, alloc, token, resources)
+    }
+
+    /// Takes the next packet in hand where the guest hasn't ended, a page is armed, and none is in hand, and copies the one in hand into
+    /// that page. Memory is wanted for the copy that is kept of it; it stays in hand then. It may wait for a wire.
+    pub fn packet_in<R: Wait>(
+        &mut self,
+        rt: &R,
+        alloc: Global,
+        resources: &Resources,
+    ) -> Result<Packeted, AllocError>
+        requires room { 2 ≤ self.old.room }
+        requires wires { self.old.wires ≡ resources.now.wires.now }
+        ensures takes { TakesPacket self.old self.new result }
+        ensures sends { SameSends self.old.passes self.new.passes }
+        ensures same { IsSameGuest self.old self.new }
+        ensures room { self.old.room ≤ self.new.room + 2 }
+    {
+        self.parts.packet_in(rt, alloc, resources)
+    }
+
+    /// Whether this guest has taken all that the wire from another guest accepted. It takes no memory, and may wait for the wire.
+    pub fn drained<R: Wait>(&mut self, rt: &R, from: &mut Guest, resources: &Resources) -> bool
+        requires wires { (self.old.wires ≡ resources.now.wires.now) × (from.old.wires ≡ resources.now.wires.now) }
+        requires other { from.old.passes.guest.0 ≢ self.old.passes.guest.0 }
+        ensures answer { HasTaken self.old.passes from.old.passes result }
+        ensures stays { KeepsEnds self.old self.new × KeepsEnds from.old from.new }
+    {
+        self.parts.drained(rt, &mut from.parts, resources)
     }
 
     /// Ends a guest that hasn't ended, since the plan is done. It gives all its frames back.
@@ -160,20 +204,26 @@ impl Guest {
         requires table { IsTableOf resources.now.table.now self.old }
         requires not_ended { self.old.state.end ≡ None }
         ensures makes { Makes self.old (Ending Budget ∷ []) self.new }
+        ensures row { Ends self.old.state Budget self.new.state }
         ensures notes { self.new.notes ≡ self.old.notes }
+        ensures passes { self.new.passes ≡ self.old.passes }
         ensures same { IsSameGuest self.old self.new }
     {
         self.parts.end_budget(resources);
     }
 
-    /// What a guest that has ended leaves: its record, its holder, which holds nothing, and its seat with its notes.
-    pub fn into_record(self) -> (GuestRecord, Holder, GuestSeat)
+    /// What a guest that has ended leaves: its record, its holder, which holds nothing, its ends of the wires, and its seat with its
+    /// notes.
+    pub fn into_record(self) -> (GuestRecord, Holder, PassList, GuestSeat)
         requires { self.state.end ≢ None }
         ensures left { IsRecord self.start self.state result.0 }
         ensures journal { result.0.journal.entries ≡ self.journal }
         ensures table { result.1.table ≡ self.table }
         ensures given_back { result.1.view.holds ≡ [] }
-        ensures seat { result.2 ≡ record { board = self.board; number = self.number; notes = self.notes } }
+        ensures passes { result.2 ≡ self.passes }
+        ensures wired { IsWired self.wires self.passes self.start.around }
+        ensures posted { Posted self.state self.journal self.passes }
+        ensures seat { result.3 ≡ record { board = self.board; number = self.number; notes = self.notes } }
         ensures sides { All (λ (n : SidedNote). n.side < length self.start.around.processors) self.notes }
         ensures notes { IsNoted self.state self.journal self.notes }
     {

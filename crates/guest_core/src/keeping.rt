@@ -23,6 +23,7 @@ impl Parts {
         ensures same { IsSameGuest (guest_of self.old) (guest_of self.new) }
         ensures stays { Stays (guest_of self.old) (guest_of self.new) }
         ensures notes { self.new.seat ≡ self.old.seat }
+        ensures passes { self.new.wiring ≡ self.old.wiring }
         ensures room { OnOk result (2 ≤ (guest_of self.new).room) }
     {
         self.journal.reserve(ENTRIES)?;

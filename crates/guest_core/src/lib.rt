@@ -9,13 +9,15 @@ mod guest;
 mod keeping;
 mod loading;
 mod parts;
+mod receiving;
 mod records;
 mod releasing;
 mod resources;
 mod start;
 mod turning;
+mod wiring;
 
-pub use answers::{Loaded, Turn};
+pub use answers::{Loaded, Packeted, Turn};
 pub use guest::Guest;
 pub use records::{Cut, GuestRecord, RecordList, RunRecord, SliceList, SliceRecord};
 pub use resources::Resources;

@@ -11,7 +11,7 @@ ghost use Rattle.guest_core.specs.GuestCalls.{Makes, Learns, LoadsVcpu, told_of_
 use crate::Loaded;
 use crate::parts::Parts;
 use base_words::{Event, ProcId, VcpuId};
-use isolation_law::{exchanges, halts_stay, row_keeps, run_grows};
+use isolation_law::{exchanges, halts_stay, row_keeps, run_grows, takes};
 use shootdown::{Note, ProcToken, note};
 
 impl Parts {
@@ -29,11 +29,13 @@ impl Parts {
         ensures learns { Learns (guest_of self.old) token.old (told_of_load (processor_of token.old) vcpu result) (guest_of self.new) token.new }
         ensures same { IsSameGuest (guest_of self.old) (guest_of self.new) }
         ensures room { (guest_of self.old).room ≤ (guest_of self.new).room + 2 }
+        ensures passes { self.new.wiring ≡ self.old.wiring }
     {
         exchanges();
         halts_stay();
         row_keeps();
         run_grows();
+        takes();
         let processor = token.number();
         if let Some(end) = self.course.ended {
             note(token, &mut self.seat, Note::Ended(end));
@@ -60,11 +62,13 @@ impl Parts {
         ensures learns { Learns (guest_of self.old) token.old (Made (Unload (processor_of token.old)) ∷ []) (guest_of self.new) token.new }
         ensures same { IsSameGuest (guest_of self.old) (guest_of self.new) }
         ensures room { (guest_of self.old).room ≤ (guest_of self.new).room }
+        ensures passes { self.new.wiring ≡ self.old.wiring }
     {
         exchanges();
         halts_stay();
         row_keeps();
         run_grows();
+        takes();
         let processor = token.number();
         self.course.unload(processor);
         let entry = Event::Unload(processor);

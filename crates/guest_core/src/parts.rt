@@ -1,5 +1,6 @@
 //! What is kept of a guest.
 use crate::start::Start;
+use crate::wiring::Wiring;
 use base_words::GuestId;
 use event_journal::Journal;
 use frame_words::Holder;
@@ -7,7 +8,7 @@ use guest_course::Course;
 use shootdown::GuestSeat;
 
 /// What is kept of a guest: its number, what it was started from, its machine with what backs it, the holder of its frames, its journal,
-/// and its seat.
+/// its seat, and its ends of the wires.
 #[derive(Drop)]
 pub(crate) struct Parts {
     pub(crate) number: GuestId,
@@ -16,4 +17,5 @@ pub(crate) struct Parts {
     pub(crate) holder: Holder,
     pub(crate) journal: Journal,
     pub(crate) seat: GuestSeat,
+    pub(crate) wiring: Wiring,
 }

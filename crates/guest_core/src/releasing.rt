@@ -50,6 +50,7 @@ pub(crate) fn close(course: &mut Course, holder: &mut Holder, table: &FrameTable
     ensures frames { HasFrames (state_of course.new) holder.new.view }
     ensures devs { course.new.devs ≡ course.old.devs }
     ensures cells { course.new.sent_from ≡ course.old.sent_from }
+    ensures received { course.new.received ≡ course.old.received }
     ensures same { holder.new.table ≡ holder.old.table }
 {
     release_all(course, holder, table);

@@ -20,9 +20,10 @@ use base_words::{End, Event, ProcId, VcpuId};
 use event_journal::Journal;
 use frame_words::{FrameTable, Holder};
 use guest_course::Course;
-use isolation_law::{exchanges, halts_stay, row_keeps, run_grows};
+use isolation_law::{exchanges, halts_stay, row_keeps, run_grows, sends, takes};
 use shootdown::{Note, ProcToken, note};
 use std::alloc::{AllocError, Global};
+use std::sync::Wait;
 
 /// Puts the step that the monitor made into the journal, and the end of the guest where it halted the last virtual processor.
 fn conclude(
@@ -47,6 +48,7 @@ fn conclude(
     ensures frames { HasFrames (state_of course.new) holder.new.view }
     ensures devs { course.new.devs ≡ course.old.devs }
     ensures cells { course.new.sent_from ≡ course.old.sent_from }
+    ensures received { course.new.received ≡ course.old.received }
     ensures same { holder.new.table ≡ holder.old.table }
 {
     journal.push(Event::Emulate(processor, vcpu));
@@ -58,8 +60,9 @@ fn conclude(
 
 impl Parts {
     /// The next entry of a virtual processor that runs.
-    fn enter(
+    fn enter<R: Wait>(
         &mut self,
+        rt: &R,
         alloc: Global,
         token: &mut ProcToken,
         vcpu: VcpuId,
@@ -69,6 +72,7 @@ impl Parts {
         requires room { 2 ≤ (guest_of self.old).room }
         requires token { MayNote (guest_of self.old) token.old }
         requires table { IsTableOf resources.now.table.now (guest_of self.old) }
+        requires wires { (guest_of self.old).wires ≡ resources.now.wires.now }
         requires loaded { (processor_at (guest_of self.old).state token.old.number).loaded ≡ Some vcpu.0 }
         requires runs { MayRun (guest_of self.old).state vcpu.0 }
         ensures kept { IsKept self.new }
@@ -81,6 +85,8 @@ impl Parts {
         halts_stay();
         row_keeps();
         run_grows();
+        sends();
+        takes();
         let processor = token.number();
         match advance(&mut self.course, alloc, processor, vcpu)? {
             Advanced::Direct(access) => {
@@ -93,7 +99,7 @@ impl Parts {
                 self.journal.push(Event::Refill(processor));
                 Ok(Turn::Refilled)
             }
-            Advanced::Emulate => {
+            Advanced::Emulate(out) => {
                 conclude(
                     &mut self.course,
                     &mut self.holder,
@@ -104,6 +110,7 @@ impl Parts {
                 );
                 let entry = Event::Emulate(processor, vcpu);
                 note(token, &mut self.seat, Note::Made(entry));
+                self.wiring.post(rt, resources.wires, out);
                 Ok(Turn::Stepped(None))
             }
         }
@@ -111,8 +118,9 @@ impl Parts {
 
     /// The virtual processor that is loaded on the token's processor has its turn.
     #[inline]
-    pub(crate) fn turn(
+    pub(crate) fn turn<R: Wait>(
         &mut self,
+        rt: &R,
         alloc: Global,
         token: &mut ProcToken,
         resources: &Resources,
@@ -121,6 +129,7 @@ impl Parts {
         requires room { 2 ≤ (guest_of self.old).room }
         requires token { MayNote (guest_of self.old) token.old }
         requires table { IsTableOf resources.now.table.now (guest_of self.old) }
+        requires wires { (guest_of self.old).wires ≡ resources.now.wires.now }
         requires loaded { (processor_at (guest_of self.old).state token.old.number).loaded ≢ None }
         requires before { (guest_of self.old).state.end ≢ Some Budget }
         ensures kept { IsKept self.new }
@@ -140,6 +149,6 @@ impl Parts {
             note(token, &mut self.seat, Note::Halted(vcpu));
             return Ok(Turn::VcpuHalted);
         }
-        self.enter(alloc, token, vcpu, resources)
+        self.enter(rt, alloc, token, vcpu, resources)
     }
 }

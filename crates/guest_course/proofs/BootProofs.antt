@@ -1,5 +1,5 @@
 -- A guest that is booted is the law's start.
-use Rattle.std.proofs.Common.{◌≡◌, ℕ, zero, suc, ◌+◌, ◌*◌, ◌^◌, slice_index, ◌<◌, ◌≤◌, false, List, [], ◌∷◌, ◌++◌, Option, Some, None, length, map, flat_map, get_or, replicate, take, drop, refl, sym, ap, ◌∙◌, subst, arith}
+use Rattle.std.proofs.Common.{◌≡◌, ℕ, zero, suc, ◌+◌, ◌*◌, ◌^◌, slice_index, ◌<◌, ◌≤◌, false, List, [], ◌∷◌, ◌++◌, Option, Some, None, length, map, flat_map, get_or, option_map, replicate, take, drop, refl, sym, ap, ◌∙◌, subst, arith}
 use Rattle.std.proofs.lemmas.List.{length-map, length-append, length-replicate}
 use Rattle.std.proofs.Math.Nat.{suc-mul, mul-le-mul_right}
 use Rattle.private_machine.specs.DevicePage.{nothing_set}
@@ -20,7 +20,7 @@ use Rattle.isolation_law.specs.GuestState.{idle}
 use Rattle.isolation_law.specs.Parts.{Processor}
 use Rattle.isolation_law.specs.Start.{pages_at_start, no_cells, IsBoot, start}
 use Rattle.isolation_law.specs.Coherence.{Coherent}
-use Rattle.guest_course.specs.CourseView.{surroundings, processor_of, due_of, state_of}
+use Rattle.guest_course.specs.CourseView.{surroundings, processor_of, due_of, hand_of, got_of, state_of}
 use Rattle.guest_course.specs.CourseRules.{AllStand, IsSound}
 use Rattle.guest_course.specs.Rebacking.{AllPlain}
 use Rattle.guest_course.specs.declared.site.Around.{Around}
@@ -103,6 +103,9 @@ pub record Booted (c : Course) (around : Around) (entry vcpus : ℕ) (frames : L
   pub counted : AreCounters (length frames) around.site.shape.nodes c.counters
   pub due : c.due.items ≡ replicate (length around.site.processors) None
   pub sent_from : c.sent_from.items ≡ []
+  pub received : c.received.items ≡ []
+  pub discarded : c.discarded.items ≡ []
+  pub hand : c.hand ≡ None
   pub ended : c.ended ≡ None
 
 map-replicate : {A B : Type 0} (f : A → B) (n : ℕ) (a : A) → map f (replicate n a) ≡ replicate n (f a)
@@ -127,10 +130,10 @@ booted-state c around entry vcpus frames disk input may b =
       devices = (b.devs i).page;
       disk = blocks i;
       sent_from = map (λ x. x.0) (b.sent_from i);
-      received = [];
-      discarded = [];
+      received = map got_of (b.received i);
+      discarded = map got_of (b.discarded i);
       skips = [];
-      hand = None;
+      hand = option_map hand_of (b.hand i);
       end = b.ended i;
       closing = None;
       pages = pages i;
@@ -181,10 +184,12 @@ booted-sound c around entry vcpus frames disk input may b co =
         few_processors = subst (λ (n : ℕ). n ≤ 16) (sym place_count) may.few_processors;
         due = ap length b.due ∙ length-replicate (length around.site.processors) None ∙ sym place_count;
         few_pages = subst (λ (n : ℕ). n ≤ 2048) (sym page_count) may.few_pages;
+        cells = ap length b.sent_from ∙ ap (λ (d : DeviceState). length d.page.sent) (sym b.devs);
       };
       agree = rw (b.devs, b.vcpus_are) (shown-start entry vcpus);
       loaded = λ p v is. absurd (nothing-loaded (map processor_of c.places.items) (length around.site.processors) p v (ap (map processor_of) b.places ∙ idle-places around.site.shape.frames around.site.processors) is);
       places = rw (b.around_is, b.places) (places-stand around may.on_nodes);
+      in_hand = rw b.hand tt;
       going = λ on. record {
         coherent = co;
         pages = ap (λ (d : DeviceState). d.pages) b.devs ∙ sym page_count;

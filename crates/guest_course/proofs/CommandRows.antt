@@ -65,7 +65,7 @@ refused-row s p v command ticks traps off stores is =
     left-row s _ p v NoAct _ traps (ticks m v _ traps.runs.running off leads) hand refl refl
 
 -- a page that is plain needs no move before its bytes change
-plain-needs : (s : GuestState) (q : ℕ) → IsPlain (page s q) → for_change s q ≡ None
+pub plain-needs : (s : GuestState) (q : ℕ) → IsPlain (page s q) → for_change s q ≡ None
 plain-needs s q plain = λ i. if plain.own i then Some (record { page = q; kind = Break; operation = None })
     else if none_of (plain.single i) then None else Some (record { page = q; kind = Collapse; operation = None })
 

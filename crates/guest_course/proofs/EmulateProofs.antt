@@ -33,7 +33,7 @@ use Rattle.isolation_law.specs.Traps.{step_on, is_granted}
 use Rattle.guest_course.specs.declared.place.Place.{Place}
 use Rattle.guest_course.specs.declared.course.Course.{Course}
 use Rattle.guest_course.specs.CourseView.{surroundings, processor_of, state_of}
-use Rattle.guest_course.specs.CourseRules.{IsSound, StandsAt, AllStand}
+use Rattle.guest_course.specs.CourseRules.{FitsInHand, IsSound, StandsAt, AllStand}
 use Rattle.guest_course.specs.Rebacking.{StaysPlain, Rebacked}
 use Rattle.guest_course.specs.StepCalls.{MayStep, IsDenied}
 use Rattle.guest_course.specs.EmulateCalls.{written_dropped}
@@ -81,6 +81,8 @@ pub record Remade (c d : Course) : Type 0 where
   pub around : d.around ≡ c.around
   pub counters : d.counters ≡ c.counters
   pub ended : d.ended ≡ c.ended
+  pub in_hand : FitsInHand d.hand
+  pub cells : length d.sent_from.items ≡ length d.devs.state.page.sent
   pub vcpus : length d.vcpus.items ≡ length c.vcpus.items
   pub fits : Fits (length d.pmap.pages) d.vcpus.items d.devs.state
   pub seconds : length d.seconds.items ≡ length c.seconds.items
@@ -89,14 +91,16 @@ pub record Remade (c d : Course) : Type 0 where
   pub plain : StaysPlain c.pmap.pages d.pmap.pages
   pub stands : AllStand (surroundings c.around) 0 d.places.items
 
-pub remade : (c d : Course) → d ≡ record c { vcpus = d.vcpus; devs = d.devs } → length d.vcpus.items ≡ length c.vcpus.items → Fits (length c.pmap.pages) d.vcpus.items d.devs.state → AllStand (surroundings c.around) 0 c.places.items → Remade c d
-remade c d same long fits stand =
+pub remade : (c d : Course) → d ≡ record c { vcpus = d.vcpus; devs = d.devs } → length d.vcpus.items ≡ length c.vcpus.items → Fits (length c.pmap.pages) d.vcpus.items d.devs.state → AllStand (surroundings c.around) 0 c.places.items → FitsInHand c.hand → length c.sent_from.items ≡ length d.devs.state.page.sent → Remade c d
+remade c d same long fits stand hand cells =
     let places : d.places ≡ c.places = ap (λ (y : Course). y.places) same in
     let pmap = ap (λ (y : Course). y.pmap) same in
     record {
       around = ap (λ (y : Course). y.around) same;
       counters = ap (λ (y : Course). y.counters) same;
       ended = ap (λ (y : Course). y.ended) same;
+      in_hand = rw (ap (λ (y : Course). y.hand) same) hand;
+      cells = ap (λ (y : Course). length y.sent_from.items) same ∙ cells;
       vcpus = long;
       fits = rw pmap fits;
       seconds = ap (λ (y : Course). length y.seconds.items) same;
@@ -112,6 +116,8 @@ remade-rebacked c d e m r = record {
   around = r.around ∙ m.around;
   counters = r.counters ∙ m.counters;
   ended = r.ended ∙ m.ended;
+  in_hand = rw r.hand m.in_hand;
+  cells = rw (r.sent_from, r.devs) m.cells;
   vcpus = ap (λ (l : Vec Vcpu). length l.items) r.vcpus ∙ m.vcpus;
   fits = rw (r.vcpus, r.devs, r.plain.long) m.fits;
   seconds = r.seconds ∙ m.seconds;
@@ -135,10 +141,12 @@ sound-remade c d sound on m loaded co =
         few_processors = subst (λ (k : ℕ). k ≤ 16) (sym m.places) sized.few_processors;
         due = m.due ∙ sized.due ∙ sym m.places;
         few_pages = subst (λ (k : ℕ). k ≤ 2048) (sym m.plain.long) sized.few_pages;
+        cells = m.cells;
       };
       agree = m.fits.agree;
       loaded = λ p v is. subst (λ (k : ℕ). v < k) (sym m.vcpus) (loaded p v is);
       places = rw m.around m.stands;
+      in_hand = m.in_hand;
       going = λ _. record {
         coherent = co;
         pages = m.fits.of_pages;
@@ -176,6 +184,8 @@ drop-rebacked c d p v pair lt all f =
       around = ap (λ (y : Course). y.around) f.same;
       counters = ap (λ (y : Course). y.counters) f.same;
       ended = ap (λ (y : Course). y.ended) f.same;
+      hand = ap (λ (y : Course). y.hand) f.same;
+      sent_from = ap (λ (y : Course). y.sent_from) f.same;
       seconds = ap length f.seconds ∙ length-set c.seconds.items v (seconds_without_pair pair (get_or c.seconds.items v []));
       places = ap length f.places ∙ length-set c.places.items p (record f.place { tlb = f.tlb });
       due = ap (λ (y : Course). length y.due.items) f.same;

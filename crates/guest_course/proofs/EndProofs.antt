@@ -62,10 +62,12 @@ ends-sound c d end sound same pages =
         few_processors = sized.few_processors;
         due = sized.due;
         few_pages = few;
+        cells = sized.cells;
       };
       agree = sound.agree;
       loaded = sound.loaded;
       places = sound.places;
+      in_hand = sound.in_hand;
       going = λ on. absurd (ended end on);
     })
   where

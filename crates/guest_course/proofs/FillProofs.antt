@@ -62,6 +62,8 @@ is-rebacked c d p v address g may f =
       around = ap (λ (y : Course). y.around) f.same;
       counters = ap (λ (y : Course). y.counters) f.same;
       ended = ap (λ (y : Course). y.ended) f.same;
+      hand = ap (λ (y : Course). y.hand) f.same;
+      sent_from = ap (λ (y : Course). y.sent_from) f.same;
       seconds = ap length f.seconds ∙ length-set c.seconds.items v (put (second_of (state_of c) v address g) (get_or c.seconds.items v []));
       places = ap length f.places ∙ length-set c.places.items p (record f.place { tlb = f.tlb });
       due = ap (λ (y : Course). length y.due.items) f.same;

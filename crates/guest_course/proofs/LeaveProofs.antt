@@ -28,9 +28,9 @@ use Rattle.guest_course.specs.Tasks.{IsTask, IsThere, done_page, done_cells, don
 use Rattle.guest_course.specs.LeavingCalls.{passing, passed, left_vcpus}
 use Rattle.guest_course.proofs.DirectRow.{joined-vcpus, joined-devices}
 use Rattle.guest_course.proofs.JoinLemmas.{by-first}
-use Rattle.guest_course.proofs.StepProofs.{transfers-joined}
+use Rattle.guest_course.proofs.StepProofs.{transfers-joined, sent-joined}
 use Rattle.guest_course.proofs.EmulateProofs.{Remade}
-use Rattle.guest_course.proofs.TaskLemmas.{sent-done, pages-plain, transfers-done, done-length}
+use Rattle.guest_course.proofs.TaskLemmas.{sent-done, pages-plain, transfers-done, cells-done, done-length}
 use Rattle.guest_course.proofs.TaskRows.{task_done, Ticks, Seen}
 use Rattle.guest_course.proofs.CommandRows.{read-task-row, write-task-row}
 use Rattle.guest_course.proofs.SendRows.{send-task-row}
@@ -87,6 +87,9 @@ left-remade c d v task sound on l =
       around = ap (λ (y : Course). y.around) l.same;
       counters = ap (λ (y : Course). y.counters) l.same;
       ended = ap (λ (y : Course). y.ended) l.same;
+      in_hand = rw (ap (λ (y : Course). y.hand) l.same) sound.in_hand;
+      cells = ap length l.cells ∙ cells-done v task c.sent_from.items (joined_page v c.vcpus.items c.devs.state.page) (sized.cells ∙ ap length (sym (sent-joined v c.vcpus.items c.devs.state.page)))
+          ∙ ap (λ (x : DeviceState). length x.page.sent) (sym l.devs);
       vcpus = vcpus;
       fits = record {
         of_pages = ap (λ (x : DeviceState). x.pages) l.devs ∙ (sound.going on).pages ∙ sym plain.long;

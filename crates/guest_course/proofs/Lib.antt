@@ -23,3 +23,5 @@ pub mod TaskRows
 pub mod CommandRows
 pub mod SendRows
 pub mod LeaveProofs
+pub mod ReceivingProofs
+pub mod PostingProofs

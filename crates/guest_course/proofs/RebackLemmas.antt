@@ -34,10 +34,12 @@ sound-rebacked c d sound r loaded co =
         few_processors = subst (λ (k : ℕ). k ≤ 16) (sym r.places) sized.few_processors;
         due = r.due ∙ sized.due ∙ sym r.places;
         few_pages = subst (λ (k : ℕ). k ≤ 2048) (sym r.plain.long) sized.few_pages;
+        cells = rw (r.sent_from, r.devs) sized.cells;
       };
       agree = rw (r.devs, r.vcpus) sound.agree;
       loaded = λ p v is. subst (λ (l : Vec _). v < length l.items) (sym r.vcpus) (loaded p v is);
       places = rw r.around r.stands;
+      in_hand = rw r.hand sound.in_hand;
       going = λ on. going-rebacked c d r (sound.going (sym r.ended ∙ on)) (co on);
     }
 

@@ -130,6 +130,9 @@ length-lined v waits cs = elim (v == 0) as (λ b. length (lined_if b waits cs) �
 pub transfers-joined : (v : ℕ) (cs : List Vcpu) (page : DevicePage) → (joined_page v cs page).transfers ≡ page.transfers
 transfers-joined v cs page = elim (v == 0) as (λ b. (joined_if b cs page).transfers ≡ page.transfers) [ true ↦ refl | false ↦ refl ]
 
+pub sent-joined : (v : ℕ) (cs : List Vcpu) (page : DevicePage) → (joined_page v cs page).sent ≡ page.sent
+sent-joined v cs page = elim (v == 0) as (λ b. (joined_if b cs page).sent ≡ page.sent) [ true ↦ refl | false ↦ refl ]
+
 vcpus-count : (c d : Course) (p v : ℕ) (access : Access) → Made c d p v access → length d.vcpus.items ≡ length c.vcpus.items
 vcpus-count c d p v access m =
     let e = m.executed in
@@ -175,6 +178,10 @@ sound-after c d x p v access m n co =
     let places : x.places ≡ c.places = ap (λ (y : Course). y.places) n.same ∙ ap (λ (y : Course). y.places) m.hardware.same in
     let seconds : x.seconds ≡ c.seconds = ap (λ (y : Course). y.seconds) n.same ∙ ap (λ (y : Course). y.seconds) m.hardware.same in
     let dues : d.due ≡ c.due = ap (λ (y : Course). y.due) m.hardware.same in
+    let from : x.sent_from ≡ c.sent_from = ap (λ (y : Course). y.sent_from) n.same ∙ ap (λ (y : Course). y.sent_from) m.hardware.same in
+    let sent : x.devs.state.page.sent ≡ c.devs.state.page.sent =
+    ap (λ y. y.state.page.sent) devs ∙ ap (λ (y : DevicePage). y.sent) m.executed.page_is ∙ sent-joined v m.executed.between c.devs.state.page in
+    let hand : x.hand ≡ c.hand = ap (λ (y : Course). y.hand) n.same ∙ ap (λ (y : Course). y.hand) m.hardware.same in
     let count : length x.vcpus.items ≡ length c.vcpus.items = ap (λ l. length l.items) vcpus ∙ vcpus-count c d p v access m in
     let transfers : length x.devs.state.page.transfers ≡ length c.devs.state.page.transfers =
     ap (λ y. length y.state.page.transfers) devs ∙ ap (λ (y : DevicePage). length y.transfers) m.executed.page_is ∙ ap length (transfers-joined v m.executed.between c.devs.state.page) in
@@ -188,10 +195,12 @@ sound-after c d x p v access m n co =
         few_processors = subst (λ (l : Vec Place). length l.items ≤ 16) (sym places) sized.few_processors;
         due = n.dues ∙ ap (λ l. length l.items) dues ∙ sized.due ∙ ap (λ (l : Vec Place). length l.items) (sym places);
         few_pages = subst (λ (k : ℕ). k ≤ 2048) (sym pages) sized.few_pages;
+        cells = ap (λ l. length l.items) from ∙ sized.cells ∙ ap length (sym sent);
       };
       agree = rw (devs, vcpus) m.hardware.agree;
       loaded = λ r u is. subst (λ (k : ℕ). u < k) (sym count) (m.sound.loaded r u (subst (λ (l : Vec Place). (get_or (map processor_of l.items) r idle).loaded ≡ Some u) places is));
       places = rw (around, places) m.sound.places;
+      in_hand = rw hand m.sound.in_hand;
       going = λ _. going-after c d x p v access m n co;
     }
 
@@ -206,6 +215,7 @@ sound-stays c d p v cause sound h u =
     let dues : d.due ≡ c.due = ap (λ (y : Course). y.due) same in
     let counters : d.counters ≡ c.counters = ap (λ (y : Course). y.counters) same in
     let ends : d.ended ≡ c.ended = ap (λ (y : Course). y.ended) same in
+    let hand : d.hand ≡ c.hand = ap (λ (y : Course). y.hand) same in
     let vcpus : d.vcpus.items ≡ c.vcpus.items = u.made.vcpus_stay in
     let pages : d.pmap.pages ≡ c.pmap.pages = u.made.pages_stay in
     let page : d.devs.state.page ≡ c.devs.state.page = u.page_stays in
@@ -219,10 +229,12 @@ sound-stays c d p v cause sound h u =
         few_processors = subst (λ (l : Vec Place). length l.items ≤ 16) (sym places) sized.few_processors;
         due = ap (λ l. length l.items) dues ∙ sized.due ∙ ap (λ (l : Vec Place). length l.items) (sym places);
         few_pages = subst (λ (l : List Page). length l ≤ 2048) (sym pages) sized.few_pages;
+        cells = ap (λ (y : Course). length y.sent_from.items) same ∙ sized.cells ∙ ap (λ (y : DevicePage). length y.sent) (sym page);
       };
       agree = h.agree;
       loaded = λ r w is. subst (λ (k : ℕ). w < k) (sym count) (sound.loaded r w (subst (λ (l : Vec Place). (get_or (map processor_of l.items) r idle).loaded ≡ Some w) places is));
       places = rw (around, places) sound.places;
+      in_hand = rw hand sound.in_hand;
       going = λ on.
           let going = sound.going (sym ends ∙ on) in
           record {

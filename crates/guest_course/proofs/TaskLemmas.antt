@@ -1,6 +1,6 @@
 -- What a task leaves of a guest's parts: their numbers, that pages are plain, and what is shown.
-use Rattle.std.proofs.Common.{◌≡◌, ℕ, List, [], ◌∷◌, ◌++◌, length, map, get_or, refl, ap, length-set}
-use Rattle.std.proofs.lemmas.List.{map-append, length-map}
+use Rattle.std.proofs.Common.{◌≡◌, ℕ, List, [], ◌∷◌, ◌++◌, ◌+◌, length, map, get_or, refl, sym, ap, ◌∙◌, length-set}
+use Rattle.std.proofs.lemmas.List.{map-append, length-map, length-append}
 use Rattle.base_words.specs.declared.ids.CellId.{CellId}
 use Rattle.private_machine.specs.declared.vcpu.Vcpu.{Vcpu}
 use Rattle.private_machine.specs.Showing.{shown_by}
@@ -65,7 +65,7 @@ pages-saved pages (tasks.Send parcel) disk = refl
 pages-saved pages tasks.Skip disk = refl
 
 -- what is done shows nothing new
-shown-unlinked : (q : ℕ) (cs : List Vcpu) → map shown_by (map (unlinked_page q) cs) ≡ map shown_by cs
+pub shown-unlinked : (q : ℕ) (cs : List Vcpu) → map shown_by (map (unlinked_page q) cs) ≡ map shown_by cs
 shown-unlinked q [] = refl
 shown-unlinked q (c ∷ cs) = ap (λ l. shown_by c ∷ l) (shown-unlinked q cs)
 
@@ -75,3 +75,11 @@ done-shown (tasks.Read block q) cs = shown-unlinked q.0 cs
 done-shown (tasks.Write block q) cs = refl
 done-shown (tasks.Send parcel) cs = refl
 done-shown tasks.Skip cs = refl
+
+-- there is a cell for each packet that was sent
+pub cells-done : (v : ℕ) (task : Task) (cells : List CellId) (d : DevicePage) → length cells ≡ length d.sent → length (done_cells task cells) ≡ length (done_page v task d).sent
+cells-done v (tasks.Refuse status) cells d e = e
+cells-done v (tasks.Read block q) cells d e = e
+cells-done v (tasks.Write block q) cells d e = e
+cells-done v (tasks.Send parcel) cells d e = length-append cells (parcel.cell ∷ []) ∙ ap (λ (n : ℕ). n + 1) e ∙ sym (length-append d.sent (record { to = parcel.to; bytes = parcel.bytes } ∷ []))
+cells-done v tasks.Skip cells d e = e

@@ -1,9 +1,10 @@
 -- What holds of a guest's parts at every moment.
-use Rattle.std.specs.Prelude.{◌≡◌, ℕ, suc, ◌+◌, ◌*◌, ◌<◌, ◌≤◌, false, List, [], ◌∷◌, Some, None, length}
+use Rattle.std.specs.Prelude.{◌≡◌, ℕ, suc, ◌+◌, ◌*◌, ◌<◌, ◌≤◌, false, List, [], ◌∷◌, Option, Some, None, length}
 use Rattle.base_words.specs.declared.trap.DataAccess.{DataAccess}
 use Rattle.base_words.specs.declared.trap.DataAccess.TheVariants as access
 use Rattle.private_machine.specs.Backing.{Page, page_at}
 use Rattle.page_policy.specs.Pages.{AreCounters}
+use Rattle.wire_queue.specs.declared.packet.WirePacket.{WirePacket}
 use Rattle.guest_devs.specs.Shown.{Agree}
 use Rattle.isolation_law.specs.Surroundings.{Surroundings, node_of_processor}
 use Rattle.isolation_law.specs.GuestState.{processor}
@@ -38,6 +39,12 @@ pub record IsSized (c : Course) : Type 0 where
   pub few_processors : length c.places.items ≤ 16
   pub due : length c.due.items ≡ length c.places.items
   pub few_pages : length c.pmap.pages ≤ 2048
+  pub cells : length c.sent_from.items ≡ length c.devs.state.page.sent
+
+-- a packet in hand has no more bytes than a page
+abbrev pub FitsInHand : Option WirePacket → Type 0
+FitsInHand None = Unit {0}
+FitsInHand (Some packet) = packet.length ≤ 4096
 
 -- the virtual processors show what the devices keep; each that is loaded is there; and until the guest ends it is coherent, and each
 -- page is plain, with its counters
@@ -52,6 +59,7 @@ pub record IsSound (c : Course) : Type 0 where
   pub agree : Agree c.devs.state c.vcpus.items
   pub loaded : (p v : ℕ) → (processor (state_of c) p).loaded ≡ Some v → v < length c.vcpus.items
   pub places : AllStand (surroundings c.around) 0 c.places.items
+  pub in_hand : FitsInHand c.hand
   pub going : c.ended ≡ None → IsGoing c
 
 -- an access of a processor to a page can be noted: both are there, with their counters

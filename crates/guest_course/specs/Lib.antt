@@ -12,5 +12,8 @@ pub mod BootCalls
 pub mod EntryCalls
 pub mod Tasks
 pub mod LeavingCalls
+pub mod ReceivingCalls
+pub mod Packets
+pub mod Posting
 pub mod EndCalls
 pub mod Executed

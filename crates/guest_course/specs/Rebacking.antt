@@ -14,13 +14,15 @@ pub record StaysPlain (old new : List Page) : Type 0 where
   pub long : length new ≡ length old
   pub plain : AllPlain old → AllPlain new
 
--- its virtual processors, its devices, what is counted and how it ended stay; there are as many of all else
+-- its virtual processors, its devices, what is counted, its packets and how it ended stay; there are as many of all else
 pub record Rebacked (c d : Course) : Type 0 where
   pub vcpus : d.vcpus ≡ c.vcpus
   pub devs : d.devs ≡ c.devs
   pub around : d.around ≡ c.around
   pub counters : d.counters ≡ c.counters
   pub ended : d.ended ≡ c.ended
+  pub hand : d.hand ≡ c.hand
+  pub sent_from : d.sent_from ≡ c.sent_from
   pub seconds : length d.seconds.items ≡ length c.seconds.items
   pub places : length d.places.items ≡ length c.places.items
   pub due : length d.due.items ≡ length c.due.items

@@ -95,6 +95,9 @@ impl Course {
             counters: Counters::new(alloc, pages, nodes)?,
             due: vec![in alloc; None; processors]?,
             sent_from: Vec::new(alloc),
+            received: Vec::new(alloc),
+            discarded: Vec::new(alloc),
+            hand: None,
             ended: None,
             around,
         })

@@ -8,6 +8,7 @@ ghost use Rattle.guest_course.specs.CourseView.{state_of};
 ghost use Rattle.guest_course.specs.CourseRules.{IsSound};
 ghost use Rattle.guest_course.specs.Executed.{outcome_at, parts_of, ExecutesOn};
 ghost use Rattle.guest_course.specs.StepCalls.{MayStep, Executes};
+ghost use Rattle.guest_course.specs.Packets.{SamePackets};
 
 use crate::course::Course;
 use crate::stepping::execute;
@@ -28,6 +29,7 @@ impl Course {
         ensures print_room { self.new.devs.print_room ≡ self.old.devs.print_room }
         ensures send_room { self.new.devs.send_room ≡ self.old.devs.send_room }
         ensures room { self.new.pmap.room ≡ self.old.pmap.room }
+        ensures sent { self.new.devs.state.page.sent ≡ self.old.devs.state.page.sent }
     {
         halves_serve();
         let tlb = &self.places[processor.0 as usize].tlb;
@@ -47,6 +49,7 @@ impl Course {
         ensures send_room { self.new.devs.send_room ≡ self.old.devs.send_room }
         ensures room { self.new.pmap.room ≡ self.old.pmap.room }
         ensures cells { self.new.sent_from ≡ self.old.sent_from }
+        ensures packets { SamePackets self.old self.new }
     {
         row_keeps();
         steps_reach_pages();

@@ -4,6 +4,7 @@ ghost use Rattle.guest_course.specs.CourseView.{state_of};
 ghost use Rattle.guest_course.specs.CourseRules.{IsSound};
 ghost use Rattle.guest_course.specs.StepCalls.{MayStep, TrapsFor};
 ghost use Rattle.guest_course.specs.EntryCalls.{Enters, GoesOnAfter};
+ghost use Rattle.guest_course.specs.Packets.{SamePackets};
 
 use crate::course::Course;
 use crate::emulating::Emulation;
@@ -40,6 +41,7 @@ impl Course {
         ensures send_room { self.new.devs.send_room ≡ self.old.devs.send_room }
         ensures room { self.new.pmap.room ≡ self.old.pmap.room }
         ensures cells { self.new.sent_from ≡ self.old.sent_from }
+        ensures packets { SamePackets self.old self.new }
     {
         match self.refill(processor, vcpu, cause) {
             Refill::Filled => Entry::Refill,
@@ -63,6 +65,7 @@ impl Course {
         ensures send_room { self.new.devs.send_room ≡ self.old.devs.send_room }
         ensures room { self.new.pmap.room ≡ self.old.pmap.room }
         ensures cells { self.new.sent_from ≡ self.old.sent_from }
+        ensures packets { SamePackets self.old self.new }
     {
         match self.step(processor, vcpu) {
             HwStep::Direct(access) => Entry::Direct(access),

@@ -11,6 +11,7 @@ ghost use Rattle.pmap_table.specs.PageMap.{with_page};
 ghost use Rattle.guest_devs.specs.DeviceCalls.{on_page};
 ghost use Rattle.guest_devs.specs.Shown.{Agree};
 ghost use Rattle.isolation_law.specs.StepRows.{IsEmulated, Emulates};
+ghost use Rattle.isolation_law.specs.WireHistory.{sent_to};
 ghost use Rattle.guest_course.specs.CourseView.{state_of};
 ghost use Rattle.guest_course.specs.CourseRules.{IsSound};
 ghost use Rattle.guest_course.specs.EmulateCalls.{LeavesAct, StaysLoaded};
@@ -18,6 +19,8 @@ ghost use Rattle.guest_course.specs.Joining.{joined_page};
 ghost use Rattle.guest_course.specs.Rebacking.{AllPlain};
 ghost use Rattle.guest_course.specs.Tasks.{IsThere, done_page, done_cells, done_pages, done_vcpus, done_disk};
 ghost use Rattle.guest_course.specs.LeavingCalls.{passing, passed, UsesCell};
+ghost use Rattle.guest_course.specs.Packets.{TakesNothing};
+ghost use Rattle.guest_course.specs.Posting.{posted};
 
 use crate::course::Course;
 use crate::stepping::tick;
@@ -25,7 +28,7 @@ use crate::task::{DONE, Parcel, Task};
 use base_words::{Ppn, VcpuId};
 use cow_disk::Disk;
 use guest_devs::{DevAct, Devs};
-use isolation_law::{pages_seen, row_keeps};
+use isolation_law::{pages_seen, row_keeps, sends};
 use mips_retire::pass;
 use pmap_table::Pmap;
 use private_machine::{Vcpu, unlink_page};
@@ -155,7 +158,10 @@ impl Course {
         ensures print_room { self.new.devs.print_room ≡ self.old.devs.print_room }
         ensures send_room { self.old.devs.send_room ≤ self.new.devs.send_room + 1 }
         ensures cell_room { UsesCell self.old.sent_from self.new.sent_from }
+        ensures sends { OnOk result ((to : ℕ) → sent_to (state_of self.new) to ≡ sent_to (state_of self.old) to ++ posted (state_of self.old) vcpu.0 act to) }
+        ensures takes { TakesNothing self.old self.new }
     {
+        sends();
         row_keeps();
         pages_seen();
         step_leads();

@@ -12,6 +12,7 @@ ghost use Rattle.guest_course.specs.StepCalls.{MayStep, TrapsFor};
 ghost use Rattle.guest_course.specs.Rebacking.{Rebacked};
 ghost use Rattle.guest_course.specs.Granting.{missed_of, HasAccess, IsInRange, Grants};
 ghost use Rattle.guest_course.specs.RefillCalls.{Serves, IsFilled, MayFill};
+ghost use Rattle.guest_course.specs.Packets.{SamePackets};
 
 use crate::course::Course;
 use crate::granting::{Granted, by_second, missed, walk};
@@ -77,6 +78,7 @@ impl Course {
         ensures rebacked { Rebacked self.old self.new }
         ensures room { self.new.pmap.room ≡ self.old.pmap.room }
         ensures cells { self.new.sent_from ≡ self.old.sent_from }
+        ensures packets { SamePackets self.old self.new }
     {
         let asid = self.vcpus[vcpu.0 as usize].cp0.asid();
         let page = granted.page;
@@ -109,6 +111,7 @@ impl Course {
         ensures send_room { self.new.devs.send_room ≡ self.old.devs.send_room }
         ensures room { self.new.pmap.room ≡ self.old.pmap.room }
         ensures cells { self.new.sent_from ≡ self.old.sent_from }
+        ensures packets { SamePackets self.old self.new }
     {
         row_keeps();
         traps_tell();

@@ -1,10 +1,11 @@
 //! A guest that runs, entry by entry.
-ghost use Rattle.std.specs.Prelude.{◌≡◌, ◌<◌, ◌≤◌, ◌∷◌, [], ℕ, IfOk, length, slice_index_or};
+ghost use Rattle.std.specs.Prelude.{◌≡◌, ◌≢◌, ◌<◌, ◌≤◌, ◌∷◌, [], ℕ, IfOk, None, length, slice_index_or};
 ghost use Rattle.std.specs.Arc.{arc_value};
 ghost use Rattle.cow_disk.specs.DiskView.{bytes_of};
 ghost use Rattle.guest_course.specs.BootCalls.{AreWhole};
 ghost use Rattle.guest_course.specs.CourseRules.{IsSound};
-ghost use Rattle.guest_course.specs.CourseView.{state_of};
+ghost use Rattle.isolation_law.specs.Phases.{GoesOn};
+ghost use Rattle.guest_course.specs.CourseView.{hand_of, state_of};
 ghost use Rattle.guest_course.specs.StepCalls.{MayStep};
 
 use crate::{Around, Course, Entry, Site};
@@ -17,6 +18,7 @@ use std::alloc::{AllocError, Global};
 use std::process::Abort;
 use std::sync::Arc;
 use std::test::Fail;
+use wire_queue::{Body, WirePacket};
 
 /// A program at the start of memory: LUI 2, CFFF; ORI 2, 2, F000; LUI 3, C000; ORI 1, 0, 48; SW 1, 1000(3); LW 4, 1000(3);
 /// SW 4, 0(2); SW 0, 4(2). It stores a byte in the second page, loads it again, prints it, and halts.
@@ -37,6 +39,16 @@ const DISK_PROGRAM: [u8; 84] = [
     0xAC, 0x41, 0x00, 0x28, 0x90, 0x64, 0x10, 0x00, 0xAC, 0x44, 0x00, 0x00, 0xAC, 0x41, 0x00, 0x20,
     0xAC, 0x41, 0x00, 0x28, 0x8C, 0x44, 0x00, 0x2C, 0x24, 0x84, 0x00, 0x30, 0xAC, 0x44, 0x00, 0x00,
     0xAC, 0x40, 0x00, 0x04,
+];
+
+/// A program at the start of memory: LUI 2, CFFF; ORI 2, 2, F000; LUI 3, C000; ORI 1, 0, 1; SW 1, 3C(2); LBU 4, 1000(3); SW 4, 0(2);
+/// LW 5, 40(2); ADDIU 5, 5, 30; SW 5, 0(2); LW 5, 44(2); ADDIU 5, 5, 30; SW 5, 0(2); SW 0, 4(2). It arms the second page; prints
+/// its first byte, and the length and the sender of the last packet as digits; and halts.
+const PACKET_PROGRAM: [u8; 56] = [
+    0x3C, 0x02, 0xCF, 0xFF, 0x34, 0x42, 0xF0, 0x00, 0x3C, 0x03, 0xC0, 0x00, 0x34, 0x01, 0x00, 0x01,
+    0xAC, 0x41, 0x00, 0x3C, 0x90, 0x64, 0x10, 0x00, 0xAC, 0x44, 0x00, 0x00, 0x8C, 0x45, 0x00, 0x40,
+    0x24, 0xA5, 0x00, 0x30, 0xAC, 0x45, 0x00, 0x00, 0x8C, 0x45, 0x00, 0x44, 0x24, 0xA5, 0x00, 0x30,
+    0xAC, 0x45, 0x00, 0x00, 0xAC, 0x40, 0x00, 0x04,
 ];
 
 /// Two frames of node 0 with a program.
@@ -198,5 +210,75 @@ fn a_guest_prints_what_its_disk_has(rt: HostRuntime) -> Result<(), Fail> {
     }
     assert!(rt; course.has_halted());
     assert!(rt; *course.devs.console() == *b"H1".as_slice());
+    Ok(())
+}
+
+/// A packet of guest 1 of three bytes, of which the first is a P.
+fn packet(alloc: Global) -> Result<WirePacket, AllocError>
+    ensures long { IfOk result (λ packet. packet.length ≡ 3) }
+    ensures whole { IfOk result (λ packet. length (hand_of packet).bytes ≡ 3) }
+{
+    let mut page = Page::zeroed(alloc)?;
+    page.set_byte(0, b'P');
+    Ok(WirePacket {
+        from: GuestId(1),
+        length: 3,
+        cell: CellId(0),
+        body: Body::Plain(page),
+    })
+}
+
+/// A packet comes to hand, and into the armed page.
+fn come(alloc: Global, course: &mut Course) -> Result<(), AllocError>
+    requires sound { IsSound course.old }
+    requires goes_on { GoesOn (state_of course.old) }
+    requires free { course.old.hand ≡ None }
+    requires armed { (state_of course.old).devices.armed ≢ None }
+    ensures { IsSound course.new }
+{
+    course.reserve()?;
+    course.take_in_hand(packet(alloc)?);
+    course.receive(alloc)
+}
+
+/// A packet comes where a page is armed; else the guest makes an entry.
+fn come_or_advance(alloc: Global, course: &mut Course, vcpu: VcpuId) -> Result<(), AllocError>
+    requires sound { IsSound course.old }
+    requires may { MayStep (state_of course.old) 0 vcpu.0 }
+    ensures { IsSound course.new }
+{
+    if course.armed().is_some() && course.hand.is_none() {
+        come(alloc, course)
+    } else {
+        advance(alloc, course, vcpu)
+    }
+}
+
+#[test]
+fn a_packet_comes_into_the_armed_page(rt: HostRuntime) -> Result<(), Fail> {
+    let alloc = rt.alloc();
+    let frames = frames(alloc, PACKET_PROGRAM.as_slice())?;
+    let disk = Disk::new(alloc, None);
+    let mut course = Course::boot(
+        alloc,
+        around(alloc)?,
+        0xC000_0000,
+        1,
+        frames,
+        disk,
+        &Sequence::new(alloc),
+    )?;
+    course.load(ProcId(0), VcpuId(0));
+    for _entry in 0..40 {
+        assert!(rt; 0 < course.places.len());
+        let Some(vcpu) = course.ready(ProcId(0)) else {
+            break;
+        };
+        come_or_advance(alloc, &mut course, vcpu)?;
+    }
+    assert!(rt; course.has_halted());
+    assert_eq!(rt; course.received.len(), 1);
+    assert!(rt; course.armed().is_none());
+    assert!(rt; *course.devs.console() == *b"P31".as_slice());
     Ok(())
 }

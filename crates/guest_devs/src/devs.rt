@@ -92,6 +92,7 @@ impl Devs {
         requires { vcpu.0 < length self.old.state.page.transfers }
         ensures value { result ≡ option_map (register_read vcpu.0 self.old.state.page) (register_of offset) }
         ensures taken { self.new.state ≡ taken self.old.state (register_of offset) }
+        ensures sent { self.new.state.page.sent ≡ self.old.state.page.sent }
         ensures print_room { self.new.print_room ≡ self.old.print_room }
         ensures send_room { self.new.send_room ≡ self.old.send_room }
     {
@@ -200,6 +201,7 @@ impl Devs {
     #[inline]
     pub fn join_input(&mut self, steps: u64)
         ensures joined { self.new.state ≡ on_page self.old.state (with_arrived steps self.old.state.page) }
+        ensures sent { self.new.state.page.sent ≡ self.old.state.page.sent }
         ensures print_room { self.new.print_room ≡ self.old.print_room }
         ensures send_room { self.new.send_room ≡ self.old.send_room }
     {

@@ -42,6 +42,7 @@ impl Devs {
         ensures stored { self.new.state ≡ stored vcpu.0 value self.old.state (register_of offset) }
         ensures signalled { vcpus.new ≡ signalled_at vcpu.0 value vcpus.old (register_of offset) }
         ensures agree { Agree self.new.state vcpus.new }
+        ensures sent { self.new.state.page.sent ≡ self.old.state.page.sent }
         ensures print_room { self.old.print_room ≤ self.new.print_room + 1 }
         ensures send_room { self.new.send_room ≡ self.old.send_room }
     {
@@ -59,6 +60,7 @@ impl Devs {
         ensures taken { self.new.state ≡ taken self.old.state (register_of offset) }
         ensures line { vcpus.new ≡ waiting_at self.new.state.page vcpus.old (register_of offset) }
         ensures agree { Agree self.new.state vcpus.new }
+        ensures sent { self.new.state.page.sent ≡ self.old.state.page.sent }
         ensures print_room { self.new.print_room ≡ self.old.print_room }
         ensures send_room { self.new.send_room ≡ self.old.send_room }
     {
@@ -76,6 +78,7 @@ impl Devs {
         ensures joined { self.new.state ≡ on_page self.old.state (with_arrived steps self.old.state.page) }
         ensures line { vcpus.new ≡ changed 0 (with_line_on 2 (input_waits self.new.state.page)) vcpus.old }
         ensures agree { Agree self.new.state vcpus.new }
+        ensures sent { self.new.state.page.sent ≡ self.old.state.page.sent }
         ensures print_room { self.new.print_room ≡ self.old.print_room }
         ensures send_room { self.new.send_room ≡ self.old.send_room }
     {

@@ -26,6 +26,7 @@ impl Devs {
         requires room { 0 < self.old.print_room }
         ensures act { result ≡ option_map (act_at value) (register_of offset) }
         ensures stored { self.new.state ≡ stored vcpu.0 value self.old.state (register_of offset) }
+        ensures sent { self.new.state.page.sent ≡ self.old.state.page.sent }
         ensures print_room { self.old.print_room ≤ self.new.print_room + 1 }
         ensures send_room { self.new.send_room ≡ self.old.send_room }
     {

@@ -28,7 +28,7 @@ pub struct GuestCell<N: Starts, const G: u8> {
 impl<N: Starts, const G: u8> GuestCell<N, G> {
     /// Puts a guest under its lock.
     pub fn new(guest: Guest) -> Self
-        requires { IsGuestOf N.starts N.board N.table G guest }
+        requires { IsGuestOf N.starts N.board N.shared G guest }
     {
         GuestCell {
             guest: Mutex::new(Kept {
@@ -65,7 +65,7 @@ impl<N: Starts, const G: u8> GuestCell<N, G> {
         unreachable!()
     }
 
-    /// Passes the gate, and makes a turn of what is loaded on the token's processor.
+    /// Passes the gate, lets a packet come, and makes a turn of what is loaded on the token's processor.
     pub fn with_turn<R: Wait, T: Gate>(
         &self,
         rt: &R,
@@ -77,11 +77,12 @@ impl<N: Starts, const G: u8> GuestCell<N, G> {
     ) -> Result<Turn, AllocError>
         requires token { Fits N.starts N.board token.old }
         requires loaded { shown G token.old ≢ None }
-        requires table { resources.now.table.now ≡ N.table }
+        requires table { resources.now.table.now ≡ N.shared.table }
+        requires wires { resources.now.wires.now ≡ N.shared.wires }
         ensures { token.new ≡ with_told token.old G (told_of_turn (processor_of token.old) (vcpu_shown G token.old) result) }
     {
         let mut kept = self.guest.lock(rt);
-        let turn = kept.turn(alloc, token, resources, gate, at);
+        let turn = kept.turn(rt, alloc, token, resources, gate, at);
         if kept.guest.end().is_some() {
             self.moved.notify_all();
         }
@@ -102,13 +103,14 @@ impl<N: Starts, const G: u8> GuestCell<N, G> {
     ) -> Burst
         requires token { Fits N.starts N.board token.old }
         requires loaded { shown G token.old ≢ None }
-        requires table { resources.now.table.now ≡ N.table }
+        requires table { resources.now.table.now ≡ N.shared.table }
+        requires wires { resources.now.wires.now ≡ N.shared.wires }
         ensures few { result.steps ≤ steps }
         ensures whole { result.stop ≡ Paused → (result.steps ≡ steps) ⊎ (result.turns ≡ BURST_TURNS) }
         ensures told { Bursts token.old G result token.new }
     {
         let mut kept = self.guest.lock(rt);
-        let burst = kept.burst(alloc, token, resources, gate, at, steps);
+        let burst = kept.burst(rt, alloc, token, resources, gate, at, steps);
         if kept.guest.end().is_some() {
             self.moved.notify_all();
         }
@@ -127,7 +129,7 @@ impl<N: Starts, const G: u8> GuestCell<N, G> {
 
     /// The guest, out of its lock.
     pub fn take_out(self) -> Guest
-        ensures { IsGuestOf N.starts N.board N.table G result }
+        ensures { IsGuestOf N.starts N.board N.shared G result }
     {
         let GuestCell { guest, moved: _ } = self;
         let Kept { guest, of: _ } = guest.into_inner();

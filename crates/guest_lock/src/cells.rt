@@ -31,8 +31,8 @@ pub struct GuestCells<N: Starts> {
 
 /// The next guest under its lock, if there is one.
 fn cell_of<N: Starts, const G: u8>(guests: &mut IntoIter<Guest>) -> Option<GuestCell<N, G>>
-    requires { GuestsFrom N.starts N.board N.table G (into_iter_items guests.old) }
-    ensures rest { GuestsFrom N.starts N.board N.table (G + 1) (into_iter_items guests.new) }
+    requires { GuestsFrom N.starts N.board N.shared G (into_iter_items guests.old) }
+    ensures rest { GuestsFrom N.starts N.board N.shared (G + 1) (into_iter_items guests.new) }
     ensures there { IsThere result G N.starts }
 {
     match guests.next() {
@@ -47,8 +47,8 @@ fn take_cell<N: Starts, const G: u8>(
     guests: &mut Vec<Guest>,
 ) -> Result<(), AllocError>
     requires there { IsThere cell G N.starts }
-    requires below { GuestsBelow N.starts N.board N.table G guests.old.items }
-    ensures { OnOk result (GuestsBelow N.starts N.board N.table (G + 1) guests.new.items) }
+    requires below { GuestsBelow N.starts N.board N.shared G guests.old.items }
+    ensures { OnOk result (GuestsBelow N.starts N.board N.shared (G + 1) guests.new.items) }
 {
     if let Some(cell) = cell {
         guests.push(cell.take_out())?;
@@ -59,7 +59,7 @@ fn take_cell<N: Starts, const G: u8>(
 impl<N: Starts> GuestCells<N> {
     /// Puts all guests of the run under their locks.
     pub fn new(guests: Vec<Guest>) -> Self
-        requires { GuestsFrom N.starts N.board N.table 0 guests.items }
+        requires { GuestsFrom N.starts N.board N.shared 0 guests.items }
     {
         let mut guests = guests.into_iter();
         let zero = cell_of::<N, 0>(&mut guests);
@@ -85,7 +85,7 @@ impl<N: Starts> GuestCells<N> {
     /// All guests of the run, out of their locks.
     pub fn take_out(self, alloc: Global) -> Result<Vec<Guest>, AllocError>
         requires { length N.starts ≤ 8 }
-        ensures { IfOk result (λ guests. GuestsFrom N.starts N.board N.table 0 guests.items) }
+        ensures { IfOk result (λ guests. GuestsFrom N.starts N.board N.shared 0 guests.items) }
     {
         let GuestCells {
             zero,

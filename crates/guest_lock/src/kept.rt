@@ -1,9 +1,9 @@
 //! What lies under a guest's lock.
-ghost use Rattle.std.specs.Prelude.{◌≡◌, ◌≢◌, ◌⊎◌, ◌≤◌, ◌∷◌, [], None, Some, slice_get};
+ghost use Rattle.std.specs.Prelude.{◌≡◌, ◌≢◌, ◌⊎◌, ◌≤◌, ◌∷◌, [], None, Some, OnOk, slice_get};
 ghost use Rattle.base_words.specs.declared.events.End.TheVariants.{Budget};
 ghost use Rattle.base_words.specs.declared.events.Event.TheVariants.{Unload};
 ghost use Rattle.shootdown.specs.declared.notes.Note.TheVariants.{Made};
-ghost use Rattle.guest_core.specs.GuestView.{IsTableOf};
+ghost use Rattle.guest_core.specs.GuestView.{AreOf};
 ghost use Rattle.guest_core.specs.GuestCalls.{processor_of, told_of_turn};
 ghost use Rattle.guest_lock.specs.declared.burst.Stop.TheVariants.{Paused};
 ghost use Rattle.guest_lock.specs.Fits.{Fits, HasVcpu};
@@ -12,11 +12,12 @@ ghost use Rattle.guest_lock.specs.Told.{with_told, shown, vcpu_shown, told_of_lo
 use crate::Starts;
 use crate::burst::{BURST_TURNS, Burst, Stop};
 use base_words::VcpuId;
-use guest_core::{Guest, Loaded, Resources, Turn};
+use guest_core::{Guest, Loaded, Packeted, Resources, Turn};
 use outside_io::{Gate, GatePoint};
 use shootdown::ProcToken;
 use std::alloc::{AllocError, Global};
 use std::marker::PhantomData;
+use std::sync::Wait;
 
 /// The guest of that number of the run that `N` names. It hasn't ended for the end of the plan.
 #[derive(Drop)]
@@ -26,7 +27,8 @@ pub(crate) struct Kept<N: Starts, const G: u8> {
     ghost number_is: { guest.number ≡ G },
     ghost start_is: { slice_get N.starts G ≡ Some guest.start },
     ghost board_is: { guest.board ≡ N.board },
-    ghost table_is: { IsTableOf N.table guest },
+    ghost shared_is: { AreOf N.shared guest },
+    ghost own_is: { guest.passes.guest.0 ≡ G },
     ghost goes_on: { guest.state.end ≢ Some Budget },
 }
 
@@ -53,9 +55,29 @@ impl<N: Starts, const G: u8> Kept<N, G> {
         self.guest.unload(token);
     }
 
-    /// Passes the gate, makes room, and makes a turn of what is loaded on the token's processor.
-    pub(crate) fn turn<T: Gate>(
+    /// A packet may come to the guest. There is room for a turn then.
+    #[inline]
+    fn receive<R: Wait>(
         &mut self,
+        rt: &R,
+        alloc: Global,
+        resources: &Resources,
+    ) -> Result<(), AllocError>
+        requires room { 2 ≤ self.old.guest.room }
+        requires wires { resources.now.wires.now ≡ N.shared.wires }
+        ensures room { OnOk result (2 ≤ self.new.guest.room) }
+        ensures notes { self.new.guest.notes ≡ self.old.guest.notes }
+    {
+        match self.guest.packet_in(rt, alloc, resources)? {
+            Packeted::NotArmed => Ok(()),
+            Packeted::Delivered | Packeted::NoneInHand => self.guest.make_room(),
+        }
+    }
+
+    /// Passes the gate, makes room, lets a packet come, and makes a turn of what is loaded on the token's processor.
+    pub(crate) fn turn<R: Wait, T: Gate>(
+        &mut self,
+        rt: &R,
         alloc: Global,
         token: &mut ProcToken,
         resources: &Resources,
@@ -64,18 +86,21 @@ impl<N: Starts, const G: u8> Kept<N, G> {
     ) -> Result<Turn, AllocError>
         requires token { Fits N.starts N.board token.old }
         requires loaded { shown G token.old ≢ None }
-        requires table { resources.now.table.now ≡ N.table }
+        requires table { resources.now.table.now ≡ N.shared.table }
+        requires wires { resources.now.wires.now ≡ N.shared.wires }
         ensures { token.new ≡ with_told token.old G (told_of_turn (processor_of token.old) (vcpu_shown G token.old) result) }
     {
         gate.pass(at);
         self.guest.make_room()?;
+        self.receive(rt, alloc, resources)?;
         self.guest.agree(token);
-        self.guest.turn(alloc, token, resources)
+        self.guest.turn(rt, alloc, token, resources)
     }
 
     /// Makes turns until one is neither a step nor a refill, there were so many steps, or there were enough turns.
-    pub(crate) fn burst<T: Gate>(
+    pub(crate) fn burst<R: Wait, T: Gate>(
         &mut self,
+        rt: &R,
         alloc: Global,
         token: &mut ProcToken,
         resources: &Resources,
@@ -85,7 +110,8 @@ impl<N: Starts, const G: u8> Kept<N, G> {
     ) -> Burst
         requires token { Fits N.starts N.board token.old }
         requires loaded { shown G token.old ≢ None }
-        requires table { resources.now.table.now ≡ N.table }
+        requires table { resources.now.table.now ≡ N.shared.table }
+        requires wires { resources.now.wires.now ≡ N.shared.wires }
         ensures few { result.steps ≤ steps }
         ensures whole { result.stop ≡ Paused → (result.steps ≡ steps) ⊎ (result.turns ≡ BURST_TURNS) }
         ensures told { Bursts token.old G result token.new }
@@ -99,7 +125,7 @@ impl<N: Starts, const G: u8> Kept<N, G> {
                 turn: at.turn.saturating_add(turn),
                 ..at
             };
-            burst.count(self.turn(alloc, token, resources, gate, here));
+            burst.count(self.turn(rt, alloc, token, resources, gate, here));
         }
         burst
     }

@@ -46,6 +46,7 @@ mod LiveRuns
 mod CellRuns
 mod IsolationProofs
 mod WorldsProofs
+mod WireProofs
 mod HaltEffects
 mod HaltProofs
 mod LoadedProofs

@@ -21,6 +21,7 @@ pub mod EndRows
 pub mod MachineEvent
 pub mod Run
 pub mod OwnHistory
+pub mod WireHistory
 pub mod LoadsIn
 pub mod Given
 pub mod PageRules

@@ -6,6 +6,7 @@ mod cells;
 mod frames;
 mod law;
 mod rows;
+mod wires;
 
 pub use cells::{cell_failure, ends_by_use, goes_on_alive};
 pub use frames::{exchanges, frames_spread, holdings, starts_held};
@@ -14,3 +15,4 @@ pub use rows::{
     halves_serve, hand_keeps, pages_seen, read_only_needs, row_keeps, run_grows,
     second_level_serves, steps_reach_pages, traps_hold, traps_tell,
 };
+pub use wires::{sends, takes};

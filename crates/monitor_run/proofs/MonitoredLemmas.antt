@@ -96,8 +96,8 @@ module _ (d : Described) where
     IsPrivate-from b s guest boot left =
         let isolated = isolation b guest.journal.entries s boot left.run in
         record {
-          console = left.console ∙ isolated.console ∙ ap (λ (got : List Packet). (private_run (private_start b) (own got guest.journal.entries)).devices.console) left.received;
-          sent = left.sent ∙ isolated.sent ∙ ap (λ (got : List Packet). (private_run (private_start b) (own got guest.journal.entries)).devices.sent) left.received;
+          console = left.console ∙ isolated.console ∙ ap (λ (got : List Packet). (private_run (private_start b) (own got guest.journal.entries)).devices.console) (sym left.received);
+          sent = left.sent ∙ isolated.sent ∙ ap (λ (got : List Packet). (private_run (private_start b) (own got guest.journal.entries)).devices.sent) (sym left.received);
         }
 
     ArePrivate-from : (boots : List Boot) (states : List GuestState) (guests : List GuestRecord) → AreBoots boots → AreRecords boots states guests → ArePrivate boots guests

@@ -1,5 +1,5 @@
 -- Guests under the monitor: what their record says.
-use Rattle.std.specs.Prelude.{◌≡◌, ℕ, suc, List, [], ◌∷◌, length}
+use Rattle.std.specs.Prelude.{◌≡◌, ℕ, suc, List, [], ◌∷◌, length, map}
 use Rattle.base_words.specs.declared.input.InputEntry.{InputEntry}
 use Rattle.private_machine.specs.PrivateMachine.{PrivateMachine}
 use Rattle.private_machine.specs.PrivateRun.{private_run}
@@ -7,6 +7,7 @@ use Rattle.isolation_law.specs.OwnHistory.{own}
 use Rattle.isolation_law.specs.Start.{Boot, private_start}
 use Rattle.machine_desc.specs.declared.machine.GuestSpec.{GuestSpec}
 use Rattle.machine_desc.specs.Described.{Described}
+use Rattle.guest_course.specs.CourseView.{got_of}
 use Rattle.guest_core.specs.declared.records.GuestRecord.{GuestRecord}
 use Rattle.guest_core.specs.declared.records.RunRecord.{RunRecord}
 use Rattle.run_workers.specs.Starting.{around_of}
@@ -29,9 +30,9 @@ AreBooted d guest (spec ∷ specs) (start ∷ starts) (input ∷ inputs) (b ∷ 
     IsBooted d guest spec start input b × AreBooted d (suc guest) specs starts inputs boots
 AreBooted d guest specs starts inputs boots = ⊥
 
--- a guest's private machine after the guest's own part of its journal; no packet comes yet
+-- a guest's private machine after the guest's own part of its journal, with the packets that it received
 abbrev pub machine_after : Boot → GuestRecord → PrivateMachine
-machine_after b guest = private_run (private_start b) (own [] guest.journal.entries)
+machine_after b guest = private_run (private_start b) (own (map got_of guest.received) guest.journal.entries)
 
 -- what a guest printed and sent is what its private machine prints and sends
 pub record IsPrivate (b : Boot) (guest : GuestRecord) : Type 0 where

@@ -384,6 +384,78 @@ vcpu = 0
 steps = 1000
 ";
 
+/// Sends a word, and prints the one that comes back.
+const ASKS: &[Part<'static>] = &[(
+    0,
+    &[
+        0x3C10CFFF, 0x3610F000, 0x3C0AC000, 0x354A1000, 0x3C097069, 0x35296E67, 0xAD490000,
+        0x24080001, 0xAE080030, 0x24090004, 0xAE090034, 0xAE080038, 0xAE08003C, 0x8E090040,
+        0x1120FFFE, 0x00000000, 0x25480004, 0x91490000, 0x254A0001, 0x1548FFFD, 0xAE090000,
+        0xAE000004,
+    ],
+)];
+
+/// Prints the word that comes, and sends it back with another letter.
+const ANSWERS: &[Part<'static>] = &[(
+    0,
+    &[
+        0x3C10CFFF, 0x3610F000, 0x24080001, 0xAE08003C, 0x8E090040, 0x1120FFFE, 0x00000000,
+        0x3C0AC000, 0x354A1000, 0x25480004, 0x254B0000, 0x91690000, 0x256B0001, 0x1568FFFD,
+        0xAE090000, 0x8D490000, 0x3C0B0006, 0x012B4826, 0xAD490000, 0x24080001, 0xAE080030,
+        0x24090004, 0xAE090034, 0xAE000038, 0xAE000004,
+    ],
+)];
+
+const PACKETS_DESCRIPTION: &str =
+    "# Two guests that send a word to each other. One processor runs them in turn.
+[machine]
+nodes = 1
+frames = 4
+processors = [0]
+
+[[guest]]
+image = \"examples/packets/guest0.raw\"
+form = \"raw\"
+pages = 2
+vcpus = 1
+node = 0
+
+[[guest]]
+image = \"examples/packets/guest1.raw\"
+form = \"raw\"
+pages = 2
+vcpus = 1
+node = 0
+
+[[work]]
+act = \"run\"
+processor = 0
+guest = 1
+vcpu = 0
+steps = 10
+
+[[work]]
+act = \"run\"
+processor = 0
+guest = 0
+vcpu = 0
+steps = 19
+
+[[work]]
+act = \"run\"
+processor = 0
+guest = 1
+vcpu = 0
+steps = 100
+
+[[work]]
+act = \"run\"
+processor = 0
+guest = 0
+vcpu = 0
+steps = 100
+";
+
 #[test]
 fn examples_print_what_they_should(rt: HostRuntime) -> Result<(), Fail> {
     let examples = [
@@ -452,6 +524,18 @@ fn examples_print_what_they_should(rt: HostRuntime) -> Result<(), Fail> {
             status: 0,
             monitored: "guest 0 console 6\nfedcba\nend halted\nsums steps 74 refills 6 moves 0 skips 0 breaks 0 shared 0 received 0 discarded 0\n",
             alone: "guest 0 console 6\nfedcba\nend halted\n",
+        },
+        Example {
+            about: "packets",
+            description: PACKETS_DESCRIPTION,
+            images: &[
+                ("examples/packets/guest0.raw", ASKS),
+                ("examples/packets/guest1.raw", ANSWERS),
+            ],
+            disk: &[],
+            status: 0,
+            monitored: "guest 0 console 4\npong\nend halted\nsums steps 40 refills 4 moves 0 skips 0 breaks 0 shared 0 received 1 discarded 0\nguest 1 console 4\nping\nend halted\nsums steps 43 refills 3 moves 0 skips 0 breaks 0 shared 0 received 1 discarded 0\n",
+            alone: "guest 0 console 0\n\nend budget\nguest 1 console 0\n\nend budget\n",
         },
     ];
     let alloc = rt.alloc();

@@ -26,6 +26,8 @@ mod examples;
 #[cfg(test)]
 mod handlers;
 #[cfg(test)]
+mod packets;
+#[cfg(test)]
 mod parallel;
 #[cfg(test)]
 mod programs;

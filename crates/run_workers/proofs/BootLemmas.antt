@@ -21,14 +21,19 @@ use Rattle.isolation_law.specs.Start.{Boot}
 use Rattle.base_words.specs.declared.input.InputEntry.{InputEntry}
 use Rattle.std.proofs.lemmas.List.{length-map}
 use Rattle.std.proofs.Math.Nat.{mul-le-mul_left, mul-le-mul_right}
-use Rattle.frame_words.specs.Holders.{MadeTable}
-use Rattle.guest_core.specs.GuestView.{Monitored, IsAtStart}
+use Rattle.guest_core.specs.GuestView.{Monitored, Shared, IsAtStart}
 use Rattle.guest_core.specs.Holding.{FitsAround}
 use Rattle.guest_core.specs.Starting.{MayStart, booted_with}
 use Rattle.run_workers.specs.Starting.{IsBuilt, IsSource, AreSources, IsStart, around_of}
-use Rattle.run_workers.specs.Booting.{IsSite, IsSeat, board_of, AreSeats, IsStarted, AreBooted}
+use Rattle.run_workers.specs.Booting.{home_in, IsSite, IsSeat, board_of, AreSeats, IsStarted, AreBooted, AreWires, HasPasses, HaveAllPasses}
+use Rattle.wire_queue.specs.Between.{Made}
+use Rattle.wire_queue.specs.PassLists.{IsListOf, IsUnused}
+use Rattle.wire_queue.specs.PassTables.{guests_of}
+use Rattle.wire_queue.specs.declared.lists.PassList.{PassList}
+use Rattle.guest_core.specs.Wiring.{IsWired}
+use Rattle.base_words.specs.declared.ids.CellId.{CellId}
 use Rattle.run_workers.proofs.WholeLemmas.{get-index, all-get, get-there}
-use Rattle.run_workers.proofs.RunLemmas.{numbered-length}
+use Rattle.run_workers.proofs.RunLemmas.{numbered-length, map-get}
 
 mul-le : (a b c d : ℕ) → a ≤ b → c ≤ d → a * c ≤ b * d
 mul-le a b c d l m = let x = mul-le-mul_right c l in let y = mul-le-mul_left b m in omega arith
@@ -55,6 +60,7 @@ may-start machine plan around source spec vcpus frames described built site gues
       backed = backed;
       no_policy = (ap (λ p. p.migrate) site.policy ∙ built.no_migration, ap (λ p. p.replicate) site.policy ∙ built.no_replication);
       few_processors = omega (arith, processors, most);
+      few_guests = omega (arith, ap length site.homes, length-map around.site.homes (λ (x : CellId). x.0), length-map machine.guests (home_in machine), described.few_guests);
       few_frames = subst (λ (n : ℕ). n * around.site.shape.frames < 2 ^ 32) (sym site.nodes) (subst (λ (n : ℕ). machine.shape.nodes * n < 2 ^ 32) (sym site.frames) (omega (arith, total)));
       at_home = subst (λ (n : ℕ). around.home.0 < n) (sym site.nodes) (subst (λ (node : NodeId). node.0 < machine.shape.nodes) (sym home) guest.home);
       unwritten = is.unwritten;
@@ -72,16 +78,16 @@ snoc-at P (z ∷ xs) [] x y same each last i a b e f = absurd (let m : suc (leng
 snoc-at P (z ∷ xs) (w ∷ ys) x y same each last zero a b e f = each zero a b e f
 snoc-at P (z ∷ xs) (w ∷ ys) x y same each last (suc i) a b e f = snoc-at (λ k. P (suc k)) xs ys x y (omega arith) (λ k. each (suc k)) last i a b e f
 
-pub booted-none : (d : Described) (board : TableId) (table : MadeTable) → AreBooted d [] board table []
-booted-none d board table = record { count = refl; each = λ g guest source e f. absurd cc }
+pub booted-none : (d : Described) (board : TableId) (shared : Shared) → AreBooted d [] board shared []
+booted-none d board shared = record { count = refl; each = λ g guest source e f. absurd cc }
 
-pub booted-more : (d : Described) (sources : List Source) (board : TableId) (table : MadeTable) (guests : List Monitored) (source : Source) (guest : Monitored) → AreBooted d sources board table guests → IsStarted d source board table (length guests) guest → AreBooted d (sources ++ source ∷ []) board table (guests ++ guest ∷ [])
-booted-more d sources board table guests source guest are is =
+pub booted-more : (d : Described) (sources : List Source) (board : TableId) (shared : Shared) (guests : List Monitored) (source : Source) (guest : Monitored) → AreBooted d sources board shared guests → IsStarted d source board shared (length guests) guest → AreBooted d (sources ++ source ∷ []) board shared (guests ++ guest ∷ [])
+booted-more d sources board shared guests source guest are is =
     let count = are.count in
     let more = length-append guests (guest ∷ []) in
     let also = length-append sources (source ∷ []) in record {
       count = omega (arith, count, more, also);
-      each = snoc-at (λ g m i. IsStarted d i board table g m) guests sources guest source are.count are.each is;
+      each = snoc-at (λ g m i. IsStarted d i board shared g m) guests sources guest source are.count are.each is;
     }
 
 -- a source among those of the description is its guest's
@@ -165,8 +171,8 @@ next-source machine plan sources yielded rest now source described are all first
 
 -- ---- one guest at its start
 
-pub started : (machine : Machine) (plan : Plan) (around : Around) (source : Source) (spec : GuestSpec) (frames : List Frame) (input : List InputEntry) (seat : Seat) (table : MadeTable) (holder : TableId) (number : ℕ) (guest : Monitored) → IsSite machine around.site → around.number.0 ≡ number → around.home ≡ spec.node → slice_get machine.guests number ≡ Some spec → slice_get plan.input number ≡ Some input → length frames ≡ length source.image.pages → seat.number ≡ number → IsAtStart seat.number (booted_with around source.image spec.vcpus frames source.disk input) seat.board holder guest → holder ≡ table.id → FitsAround table (surroundings around) → IsStarted (described_seen machine plan) source seat.board table number guest
-started machine plan around source spec frames input seat table holder number guest site of home spec-is input-is backed seat-is at made fits =
+pub started : (machine : Machine) (plan : Plan) (around : Around) (source : Source) (spec : GuestSpec) (frames : List Frame) (input : List InputEntry) (seat : Seat) (shared : Shared) (passes : PassList) (holder : TableId) (number : ℕ) (guest : Monitored) → IsSite machine around.site → around.number.0 ≡ number → around.home ≡ spec.node → slice_get machine.guests number ≡ Some spec → slice_get plan.input number ≡ Some input → length frames ≡ length source.image.pages → seat.number ≡ number → IsAtStart seat.number (booted_with around source.image spec.vcpus frames source.disk input) seat.board holder shared.wires passes guest → holder ≡ shared.table.id → FitsAround shared.table (surroundings around) → passes.guest.0 ≡ number → IsStarted (described_seen machine plan) source seat.board shared number guest
+started machine plan around source spec frames input seat shared passes holder number guest site of home spec-is input-is backed seat-is at made fits own =
     let d = described_seen machine plan in
     let lies : surroundings around ≡ around_of d number spec = λ k. record {
       guest = of k;
@@ -189,7 +195,11 @@ started machine plan around source spec frames input seat table holder number gu
       fresh = record {
         number_is = at.number_is ∙ seat-is;
         board_is = at.board_is;
-        table_is = record { made = at.table_is ∙ made; fits = subst (λ (b : Boot). FitsAround table b.around) (sym at.start_is) fits };
+        shared_is = record {
+          table = record { made = at.table_is ∙ made; fits = subst (λ (b : Boot). FitsAround shared.table b.around) (sym at.start_is) fits };
+          wires = at.wires_are;
+        };
+        own_is = ap (λ (p : PassList). p.guest.0) at.passes_are ∙ own;
         goes_on = ap (λ (s : GuestState). s.end) at.state_is;
       };
       spec = spec;
@@ -197,4 +207,27 @@ started machine plan around source spec frames input seat table holder number gu
       input = input;
       input_is = input-is;
       start = subst (λ (b : Boot). IsStart d number spec source input b) (sym at.start_is) start;
+    }
+
+-- ---- the wires
+
+-- a guest's ends are those of the wires around it
+pub wired : (machine : Machine) (around : Around) (wires : Made) (passes : PassList) (number : ℕ) → IsSite machine around.site → around.number.0 ≡ number → number < length machine.guests → AreWires (length machine.guests) wires → HasPasses wires number passes → IsWired wires passes (surroundings around)
+wired machine around wires passes number site of there are has = record {
+  list = has.list;
+  joins = are.joins;
+  guests = are.all ∙ sym (length-map machine.guests (home_in machine)) ∙ sym (ap length site.homes);
+  number = has.guest_is ∙ sym of;
+  is_guest = omega (arith, has.guest_is, are.all, there);
+}
+
+-- the ends of the next guest
+pub next-passes : (wires : Made) (lists : List PassList) (number : ℕ) (passes : PassList) → HaveAllPasses wires lists → slice_get lists number ≡ Some passes → HasPasses wires number passes
+next-passes wires lists number passes have at =
+    let here = get-index (guests_of lists) number passes.guest.0 0 (map-get (λ (l : PassList). l.guest.0) lists number passes at) in
+    let there = (get-index lists number passes passes at).0 in
+    record {
+      list = all-get (IsListOf wires) lists number passes have.all.each at;
+      guest_is = sym here.1 ∙ have.all.numbered number (omega (arith, there, have.all.all));
+      unused = all-get IsUnused lists number passes have.unused at;
     }

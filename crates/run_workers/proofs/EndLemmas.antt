@@ -1,24 +1,50 @@
 -- One guest more has ended.
-use Rattle.std.proofs.Common.{◌≡◌, ℕ, ◌+◌, ◌<◌, List, [], ◌∷◌, ◌++◌, length, length-append, All, sym, ap, ◌∙◌, subst, arith, Some}
+use Rattle.std.proofs.Common.{◌≡◌, ◌≢◌, ℕ, zero, suc, ◌+◌, ◌<◌, List, [], ◌∷◌, ◌++◌, length, length-append, All, sym, ap, ◌∙◌, subst, arith, refl, Some, None, true}
 use Rattle.std.specs.Prelude.{slice_get}
 use Rattle.atomic_table.specs.Seated.{TableId}
 use Rattle.base_words.specs.declared.events.Event.{Event}
-use Rattle.frame_words.specs.Holders.{MadeTable}
+use Rattle.base_words.specs.declared.events.End.TheVariants.{Budget}
 use Rattle.shootdown.specs.declared.view.SidedNote.{SidedNote}
 use Rattle.shootdown.specs.Notes.{Seat}
 use Rattle.isolation_law.specs.GuestState.{GuestState}
-use Rattle.isolation_law.specs.Start.{Boot}
-use Rattle.guest_core.specs.GuestView.{Monitored, IsSameGuest}
+use Rattle.isolation_law.specs.EndRows.{Ends}
+use Rattle.isolation_law.specs.Run.{Run}
+use Rattle.isolation_law.specs.Start.{Boot, start}
+use Rattle.isolation_law.specs.WireHistory.{EndsWaiting}
+use Rattle.guest_core.specs.GuestView.{Monitored, Shared, IsSameGuest}
 use Rattle.guest_core.specs.Noting.{IsNoted}
+use Rattle.guest_core.specs.PacketCalls.{IsArmed}
 use Rattle.guest_core.specs.Records.{IsRecord}
+use Rattle.guest_core.specs.Wiring.{IsWired, Posted}
+use Rattle.wire_queue.specs.Between.{Made}
+use Rattle.wire_queue.specs.ListSteps.{HasTaken}
+use Rattle.wire_queue.specs.declared.lists.PassList.{PassList}
 use Rattle.guest_core.specs.declared.records.GuestRecord.{GuestRecord}
 use Rattle.guest_lock.specs.Guests.{IsGuestOf, GuestsFrom}
-use Rattle.run_workers.specs.Ending.{Leaves, HasLeft, AreLeft}
+use Rattle.run_workers.specs.Draining.{AreDrained}
+use Rattle.run_workers.specs.Ending.{Leaves, Told, EndsSo, HasLeft, AreLeft, AllTold, EndDrained}
+use Rattle.run_workers.proofs.WholeLemmas.{get-index}
 use Rattle.run_workers.proofs.LoopLemmas.{left-more}
 
+-- ---- the end of one guest
+
+-- the plan's end keeps what is armed and in hand
+pub ends-by-plan : (guest room last : Monitored) (passes : PassList) → passes ≡ guest.passes → room.state ≡ guest.state → Ends room.state Budget last.state → EndsSo guest last.state passes
+ends-by-plan guest room last passes same stays row =
+    let before = subst (λ (s : GuestState). Ends s Budget last.state) stays row in
+    record {
+      same = same;
+      armed = λ waits. record { not_ended = before.may.not_ended; armed = λ e. waits.1 (ap (λ (s : GuestState). s.devices.armed) before.after ∙ e) };
+      hand = λ waits. ap (λ (s : GuestState). s.hand) before.after;
+    }
+
+-- a guest that had ended waits for nothing
+pub ended-before : (guest : Monitored) (passes : PassList) → passes ≡ guest.passes → guest.state.end ≢ Some Budget → EndsSo guest guest.state passes
+ended-before guest passes same other = record { same = same; armed = λ waits. absurd (other waits.0); hand = λ waits. absurd (other waits.0) }
+
 -- what a guest leaves, by what it was last
-pub has-left : (guest last : Monitored) (left : GuestRecord) (seat : Seat) → IsSameGuest guest last → IsRecord last.start last.state left → left.journal.entries ≡ last.journal → seat ≡ record { board = last.board; number = last.number; notes = last.notes } → IsNoted last.state last.journal last.notes → All (λ (n : SidedNote). n.side < length last.start.around.processors) last.notes → HasLeft guest left seat
-has-left guest last left seat same is journal seat-is noted sides =
+pub has-left : ((s t : GuestState) (journal : List Event) → Run s journal t → t.around ≡ s.around) → (guest last : Monitored) (left : GuestRecord) (passes : PassList) (seat : Seat) → EndsSo guest last.state passes → IsSameGuest guest last → IsRecord last.start last.state left → left.journal.entries ≡ last.journal → seat ≡ record { board = last.board; number = last.number; notes = last.notes } → IsNoted last.state last.journal last.notes → All (λ (n : SidedNote). n.side < length last.start.around.processors) last.notes → IsWired last.wires passes last.start.around → Posted last.state last.journal passes → HasLeft guest left passes seat
+has-left around guest last left passes seat ends same is journal seat-is noted sides wired posted =
     let notes : seat.notes ≡ last.notes = ap (λ (s : Seat). s.notes) seat-is in record {
       state = last.state;
       leaves = record {
@@ -28,18 +54,109 @@ has-left guest last left seat same is journal seat-is noted sides =
         notes = subst (λ (ns : List SidedNote). IsNoted last.state left.journal.entries ns) (sym notes) (subst (λ (j : List Event). IsNoted last.state j last.notes) (sym journal) noted);
         sides = subst (λ (ns : List SidedNote). All (λ (n : SidedNote). n.side < length guest.start.around.processors) ns) (sym notes) (subst (λ (b : Boot). All (λ (n : SidedNote). n.side < length b.around.processors) last.notes) same.start sides);
       };
+      told = record {
+        around = around (start last.start) last.state left.journal.entries is.run ∙ ap (λ (b : Boot). b.around) same.start;
+        wired = subst (λ (m : Made). IsWired m passes guest.start.around) same.wires (subst (λ (b : Boot). IsWired last.wires passes b.around) same.start wired);
+        posted = subst (λ (j : List Event). Posted last.state j passes) (sym journal) posted;
+      };
+      ends = ends;
     }
 
+-- ---- one guest more
+
 -- the next guest's record and seat
-pub left-next : (starts : List Boot) (board : TableId) (table : MadeTable) (states : List GuestState) (lefts : List GuestRecord) (seats : List Seat) (guest : Monitored) (left : GuestRecord) (seat : Seat) → AreLeft starts board 0 states lefts seats → IsGuestOf starts board table (length lefts) guest → (has : HasLeft guest left seat) → AreLeft starts board 0 (states ++ has.state ∷ []) (lefts ++ left ∷ []) (seats ++ seat ∷ [])
-left-next starts board table states lefts seats guest left seat are is has =
+pub left-next : (starts : List Boot) (board : TableId) (shared : Shared) (states : List GuestState) (lefts : List GuestRecord) (seats : List Seat) (guest : Monitored) (left : GuestRecord) (passes : PassList) (seat : Seat) → AreLeft starts board 0 states lefts seats → IsGuestOf starts board shared (length lefts) guest → (has : HasLeft guest left passes seat) → AreLeft starts board 0 (states ++ has.state ∷ []) (lefts ++ left ∷ []) (seats ++ seat ∷ [])
+left-next starts board shared states lefts seats guest left passes seat are is has =
     let here : length lefts ≡ 0 + length lefts = omega arith in
     let leaves : Leaves guest.start board (length lefts) has.state left seat = subst (λ b. Leaves guest.start b (length lefts) has.state left seat) is.board_is (subst (λ n. Leaves guest.start guest.board n has.state left seat) is.number_is has.leaves) in
     left-more starts board 0 states lefts seats guest.start has.state left seat are (subst (λ n. slice_get starts n ≡ Some guest.start) here is.start_is) (subst (λ n. Leaves guest.start board n has.state left seat) here leaves)
 
 -- and the guests behind it
-pub rest-next : (starts : List Boot) (board : TableId) (table : MadeTable) (lefts more : List GuestRecord) (left : GuestRecord) (guests : List Monitored) → more ≡ lefts ++ left ∷ [] → GuestsFrom starts board table (length lefts + 1) guests → GuestsFrom starts board table (length more) guests
-rest-next starts board table lefts more left guests grown from =
+pub rest-next : (starts : List Boot) (board : TableId) (shared : Shared) (lefts more : List GuestRecord) (left : GuestRecord) (guests : List Monitored) → more ≡ lefts ++ left ∷ [] → GuestsFrom starts board shared (length lefts + 1) guests → GuestsFrom starts board shared (length more) guests
+rest-next starts board shared lefts more left guests grown from =
     let n = length-append lefts (left ∷ []) in
     let count : length lefts + 1 ≡ length more = sym (ap (λ (l : List GuestRecord). length l) grown ∙ n) in
-    subst (λ k. GuestsFrom starts board table k guests) count from
+    subst (λ k. GuestsFrom starts board shared k guests) count from
+
+-- the next guest's ends
+told-more : (starts : List Boot) (wires : Made) (k : ℕ) (states : List GuestState) (lefts : List GuestRecord) (lists : List PassList) (start : Boot) (state : GuestState) (left : GuestRecord) (passes : PassList) → AllTold starts wires k states lefts lists → slice_get starts (k + length lefts) ≡ Some start → Told start wires state left passes → AllTold starts wires k (states ++ state ∷ []) (lefts ++ left ∷ []) (lists ++ passes ∷ [])
+told-more starts wires k [] [] [] start state left passes are named told =
+    let here : k + 0 ≡ k = omega arith in
+    ((start, subst (λ n. slice_get starts n ≡ Some start) here named, told), tt)
+told-more starts wires k [] [] (t ∷ lists) start state left passes are named told = absurd are
+told-more starts wires k [] (r ∷ lefts) lists start state left passes are named told = absurd are
+told-more starts wires k (s ∷ states) [] lists start state left passes are named told = absurd are
+told-more starts wires k (s ∷ states) (r ∷ lefts) [] start state left passes are named told = absurd are
+told-more starts wires k (s ∷ states) (r ∷ lefts) (t ∷ lists) start state left passes are named told =
+    let next : k + suc (length lefts) ≡ k + 1 + length lefts = omega arith in
+    (are.0, told-more starts wires (k + 1) states lefts lists start state left passes are.1 (subst (λ n. slice_get starts n ≡ Some start) next named) told)
+
+pub told-next : (starts : List Boot) (board : TableId) (shared : Shared) (states : List GuestState) (lefts : List GuestRecord) (lists : List PassList) (guest : Monitored) (left : GuestRecord) (passes : PassList) (seat : Seat) → AllTold starts shared.wires 0 states lefts lists → IsGuestOf starts board shared (length lefts) guest → (has : HasLeft guest left passes seat) → AllTold starts shared.wires 0 (states ++ has.state ∷ []) (lefts ++ left ∷ []) (lists ++ passes ∷ [])
+told-next starts board shared states lefts lists guest left passes seat are is has =
+    let here : length lefts ≡ 0 + length lefts = omega arith in
+    told-more starts shared.wires 0 states lefts lists guest.start has.state left passes are (subst (λ n. slice_get starts n ≡ Some guest.start) here is.start_is) (subst (λ (m : Made). Told guest.start m has.state left passes) is.shared_is.wires has.told)
+
+-- ---- whoever waits at the end has taken all
+
+-- the guests before their ends, with their last states and their ends of the wires
+abbrev pub AllEndSo : List Monitored → List GuestState → List PassList → Type 0
+AllEndSo [] [] [] = Unit {0}
+AllEndSo (guest ∷ guests) (state ∷ states) (passes ∷ lists) = EndsSo guest state passes × AllEndSo guests states lists
+AllEndSo guests states lists = ⊥
+
+pub end-so-next : (guests : List Monitored) (states : List GuestState) (lists : List PassList) (guest : Monitored) (state : GuestState) (passes : PassList) → AllEndSo guests states lists → EndsSo guest state passes → AllEndSo (guests ++ guest ∷ []) (states ++ state ∷ []) (lists ++ passes ∷ [])
+end-so-next [] [] [] guest state passes all ends = (ends, tt)
+end-so-next [] [] (t ∷ lists) guest state passes all ends = absurd all
+end-so-next [] (s ∷ states) lists guest state passes all ends = absurd all
+end-so-next (g ∷ guests) [] lists guest state passes all ends = absurd all
+end-so-next (g ∷ guests) (s ∷ states) [] guest state passes all ends = absurd all
+end-so-next (g ∷ guests) (s ∷ states) (t ∷ lists) guest state passes all ends = (all.0, end-so-next guests states lists guest state passes all.1 ends)
+
+-- the guest of a place
+record At (guests : List Monitored) (states : List GuestState) (lists : List PassList) (i : ℕ) : Type 0 where
+  pub guest : Monitored
+  pub state : GuestState
+  pub passes : PassList
+  pub guest_is : slice_get guests i ≡ Some guest
+  pub state_is : slice_get states i ≡ Some state
+  pub passes_are : slice_get lists i ≡ Some passes
+  pub ends : EndsSo guest state passes
+
+end-at : (guests : List Monitored) (states : List GuestState) (lists : List PassList) (i : ℕ) → AllEndSo guests states lists → i < length lists → At guests states lists i
+end-at [] [] [] i all lt = absurd (let m : i < 0 = lt in omega arith)
+end-at [] [] (t ∷ lists) i all lt = absurd all
+end-at [] (s ∷ states) lists i all lt = absurd all
+end-at (g ∷ guests) [] lists i all lt = absurd all
+end-at (g ∷ guests) (s ∷ states) [] i all lt = absurd all
+end-at (g ∷ guests) (s ∷ states) (t ∷ lists) zero all lt = record { guest = g; state = s; passes = t; guest_is = refl; state_is = refl; passes_are = refl; ends = all.0 }
+end-at (g ∷ guests) (s ∷ states) (t ∷ lists) (suc i) all lt =
+    let at = end-at guests states lists i all.1 (omega (arith, lt)) in
+    record { guest = at.guest; state = at.state; passes = at.passes; guest_is = at.guest_is; state_is = at.state_is; passes_are = at.passes_are; ends = at.ends }
+
+end-count : (guests : List Monitored) (states : List GuestState) (lists : List PassList) → AllEndSo guests states lists → length states ≡ length lists
+end-count [] [] [] all = refl
+end-count [] [] (t ∷ lists) all = absurd all
+end-count [] (s ∷ states) lists all = absurd all
+end-count (g ∷ guests) [] lists all = absurd all
+end-count (g ∷ guests) (s ∷ states) [] all = absurd all
+end-count (g ∷ guests) (s ∷ states) (t ∷ lists) all = ap suc (end-count guests states lists all.1)
+
+same-some : {A : Type 0} (x y : A) → Some x ≡ Some y → x ≡ y
+same-some x y e = cc
+
+pub end-drained : (guests : List Monitored) (states : List GuestState) (lists : List PassList) → AllEndSo guests states lists → AreDrained guests → EndDrained states lists
+end-drained guests states lists all drained = record {
+  none = λ i s is waits.
+      let at = end-at guests states lists i all (omega (arith, (get-index states i s s is).0, end-count guests states lists all)) in
+      let same : at.state ≡ s = same-some at.state s (sym at.state_is ∙ is) in
+      let waits' = subst EndsWaiting (sym same) waits in
+      ap (λ (x : GuestState). x.hand) (sym same) ∙ at.ends.hand waits' ∙ drained.none i at.guest at.guest_is (at.ends.armed waits');
+  all = λ i j s receiver sender is p q other waits.
+      let at = end-at guests states lists i all (get-index lists i receiver receiver p).0 in
+      let from = end-at guests states lists j all (get-index lists j sender sender q).0 in
+      let same : at.state ≡ s = same-some at.state s (sym at.state_is ∙ is) in
+      let taker : at.guest.passes ≡ receiver = sym at.ends.same ∙ same-some at.passes receiver (sym at.passes_are ∙ p) in
+      let giver : from.guest.passes ≡ sender = sym from.ends.same ∙ same-some from.passes sender (sym from.passes_are ∙ q) in
+      let has = drained.all i j at.guest from.guest at.guest_is from.guest_is other (at.ends.armed (subst EndsWaiting (sym same) waits)) in
+      subst (λ (x : PassList). HasTaken x sender true) taker (subst (λ (y : PassList). HasTaken at.guest.passes y true) giver has);
+}

@@ -6,9 +6,12 @@ pub mod DealLemmas
 pub mod DueLemmas
 pub mod LoopLemmas
 pub mod WholeLemmas
+pub mod PacketLemmas
 pub mod RunLemmas
 pub mod ServingLemmas
 pub mod TopLemmas
 pub mod LotLemmas
 pub mod BootLemmas
 pub mod EndLemmas
+pub mod DrainLemmas
+pub mod SettledLemmas

@@ -9,7 +9,6 @@ use Rattle.base_words.specs.declared.ids.NodeId.{NodeId}
 use Rattle.base_words.specs.declared.ids.CellId.{CellId}
 use Rattle.base_words.specs.declared.ids.Ppn.{Ppn}
 use Rattle.base_words.specs.declared.moves.MoveKind.{MoveKind}
-use Rattle.frame_words.specs.Holders.{MadeTable}
 use Rattle.shootdown.specs.Notes.{Token, Seat, sided}
 use Rattle.shootdown.specs.declared.view.SidedNote.{SidedNote}
 use Rattle.isolation_law.specs.GuestState.{GuestState}
@@ -18,7 +17,7 @@ use Rattle.machine_desc.specs.declared.plan.Item.{Item}
 use Rattle.machine_desc.specs.declared.plan.Item.TheVariants.{Run, Move, Fail}
 use Rattle.guest_core.specs.declared.records.GuestRecord.{GuestRecord}
 use Rattle.guest_core.specs.declared.records.SliceRecord.{SliceRecord}
-use Rattle.guest_core.specs.GuestView.{Monitored}
+use Rattle.guest_core.specs.GuestView.{Monitored, Shared}
 use Rattle.guest_lock.specs.Guests.{GuestsFrom}
 use Rattle.run_workers.specs.Planned.{Planned, planned}
 use Rattle.run_workers.specs.Slices.{own, AreTold, Serves}
@@ -157,6 +156,6 @@ pub behind-drop : (queue : List SliceRecord) → drop 1 queue ≡ behind queue
 behind-drop [] = refl
 behind-drop (slice ∷ queue) = refl
 
-pub guests-past : (starts : List Boot) (board : TableId) (table : MadeTable) (k : ℕ) (guests : List Monitored) → GuestsFrom starts board table k guests → length guests ≡ 0 → length starts ≤ k
-guests-past starts board table k [] from none = from
-guests-past starts board table k (g ∷ guests) from none = absurd (let m : suc (length guests) ≡ 0 = none in omega arith)
+pub guests-past : (starts : List Boot) (board : TableId) (shared : Shared) (k : ℕ) (guests : List Monitored) → GuestsFrom starts board shared k guests → length guests ≡ 0 → length starts ≤ k
+guests-past starts board shared k [] from none = from
+guests-past starts board shared k (g ∷ guests) from none = absurd (let m : suc (length guests) ≡ 0 = none in omega arith)

@@ -158,28 +158,28 @@ fits-around table machine plan around spec described words lends site home =
 
 -- ---- one lot after another
 
-next-at : (lots rest : List Lot) (n : ℕ) (lot : Lot) → drop n lots ≡ lot ∷ rest → (slice_get lots n ≡ Some lot) × (drop (suc n) lots ≡ rest)
-next-at [] rest n lot e = absurd (never rest lot (sym (drop-none n) ∙ e))
+next-at : {A : Type 0} (lots rest : List A) (n : ℕ) (lot : A) → drop n lots ≡ lot ∷ rest → (slice_get lots n ≡ Some lot) × (drop (suc n) lots ≡ rest)
+next-at {A = A} [] rest n lot e = absurd (never rest lot (sym (drop-none n) ∙ e))
   where
-    drop-none : (n : ℕ) → ◌≡◌ {A = List Lot} (drop n []) []
+    drop-none : (n : ℕ) → ◌≡◌ {A = List A} (drop n []) []
     drop-none zero = refl
     drop-none (suc n) = refl
 
-    never : (rest : List Lot) (lot : Lot) → ◌≡◌ {A = List Lot} [] (lot ∷ rest) → ⊥
+    never : (rest : List A) (lot : A) → ◌≡◌ {A = List A} [] (lot ∷ rest) → ⊥
     never rest lot e = cc
-next-at (x ∷ lots) rest zero lot e =
-    let head : slice_get (x ∷ lots) 0 ≡ slice_get (lot ∷ rest) 0 = ap (λ (l : List Lot). slice_get l 0) e in
-    let tail : drop 1 (x ∷ lots) ≡ drop 1 (lot ∷ rest) = ap (λ (l : List Lot). drop 1 l) e in (head, tail)
+next-at {A = A} (x ∷ lots) rest zero lot e =
+    let head : slice_get (x ∷ lots) 0 ≡ slice_get (lot ∷ rest) 0 = ap (λ (l : List A). slice_get l 0) e in
+    let tail : drop 1 (x ∷ lots) ≡ drop 1 (lot ∷ rest) = ap (λ (l : List A). drop 1 l) e in (head, tail)
 next-at (x ∷ lots) rest (suc n) lot e = next-at lots rest n lot e
 
-pub next-lot : (lots rest : List Lot) (n : ℕ) (lot : Lot) (place : ℕ) → place ≡ n → drop n lots ≡ lot ∷ rest → slice_get lots place ≡ Some lot
+pub next-lot : {A : Type 0} (lots rest : List A) (n : ℕ) (lot : A) (place : ℕ) → place ≡ n → drop n lots ≡ lot ∷ rest → slice_get lots place ≡ Some lot
 next-lot lots rest n lot place is e = ap (slice_get lots) is ∙ (next-at lots rest n lot e).0
 
-pub rest-lots : (lots rest : List Lot) (n : ℕ) (lot : Lot) (more : ℕ) → more ≡ n + 1 → drop n lots ≡ lot ∷ rest → rest ≡ drop more lots
+pub rest-lots : {A : Type 0} (lots rest : List A) (n : ℕ) (lot : A) (more : ℕ) → more ≡ n + 1 → drop n lots ≡ lot ∷ rest → rest ≡ drop more lots
 rest-lots lots rest n lot more is e = sym (ap (λ (k : ℕ). drop k lots) (let m : more ≡ suc n = omega arith in m) ∙ (next-at lots rest n lot e).1)
 
 -- there is one more where there are more than those that went
-pub no-more : (lots : List Lot) (n : ℕ) → length (drop n lots) ≡ 0 → n < length lots → ⊥
+pub no-more : {A : Type 0} (lots : List A) (n : ℕ) → length (drop n lots) ≡ 0 → n < length lots → ⊥
 no-more [] n e lt = omega arith
 no-more (x ∷ lots) zero e lt = let some : suc (length lots) ≡ 0 = e in omega arith
 no-more (x ∷ lots) (suc n) e lt = no-more lots n e (omega arith)

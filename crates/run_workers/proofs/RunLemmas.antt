@@ -4,14 +4,13 @@ use Rattle.std.specs.Prelude.{slice_get, slice_index_or, option_map}
 use Rattle.std.specs.declared.alloc.Global.{Global}
 use Rattle.atomic_table.specs.Seated.{TableId}
 use Rattle.base_words.specs.declared.events.End.TheVariants.{Budget}
-use Rattle.frame_words.specs.Holders.{MadeTable}
 use Rattle.shootdown.specs.Notes.{Token, Seat}
 use Rattle.shootdown.specs.Making.{numbered, fresh_token}
 use Rattle.isolation_law.specs.GuestState.{GuestState}
 use Rattle.isolation_law.specs.Start.{Boot}
 use Rattle.machine_desc.specs.declared.plan.Item.{Item}
 use Rattle.machine_desc.specs.declared.plan.Item.TheVariants.{Run, Move, Fail}
-use Rattle.guest_core.specs.GuestView.{Monitored}
+use Rattle.guest_core.specs.GuestView.{Monitored, Shared}
 use Rattle.guest_core.specs.Records.{IsRecord}
 use Rattle.guest_core.specs.declared.records.GuestRecord.{GuestRecord}
 use Rattle.guest_core.specs.declared.records.SliceRecord.{SliceRecord}
@@ -25,7 +24,12 @@ use Rattle.run_workers.specs.Working.{ItemFits, IsOn}
 use Rattle.run_workers.specs.Workers.{IsReady, Works}
 use Rattle.run_workers.specs.Parts.{token_of, slices_of}
 use Rattle.run_workers.specs.Booting.{start_of, IsFresh}
-use Rattle.run_workers.specs.Ending.{Leaves, AreLeft}
+use Rattle.run_workers.specs.Ending.{Leaves, AreLeft, AllTold}
+use Rattle.std.proofs.lemmas.List.Elements.{All-nil, All-cons}
+use Rattle.wire_queue.specs.Between.{Made, guest_count}
+use Rattle.wire_queue.specs.PassLists.{IsListOf, AreAllOf}
+use Rattle.wire_queue.specs.PassTables.{guests_of}
+use Rattle.wire_queue.specs.declared.lists.PassList.{PassList}
 use Rattle.run_workers.specs.Named.{MayRun}
 use Rattle.run_workers.specs.declared.workers.Worker.{Worker}
 use Rattle.run_workers.proofs.NoteLists.{Every}
@@ -58,9 +62,9 @@ numbered-length f k (suc n) = ap suc (numbered-length f (suc k) n)
 
 -- ---- guests under their locks
 
-fresh-guests : (board : TableId) (table : MadeTable) (pre : List Boot) (k : ℕ) (guests : List Monitored) → k ≡ length pre → ((i : ℕ) (g : Monitored) → slice_get guests i ≡ Some g → IsFresh board table (k + i) g) → GuestsFrom (pre ++ map start_of guests) board table k guests
-fresh-guests board table pre k [] e fresh = let n = length-append pre [] in omega arith
-fresh-guests board table pre k (g ∷ guests) e fresh =
+fresh-guests : (board : TableId) (shared : Shared) (pre : List Boot) (k : ℕ) (guests : List Monitored) → k ≡ length pre → ((i : ℕ) (g : Monitored) → slice_get guests i ≡ Some g → IsFresh board shared (k + i) g) → GuestsFrom (pre ++ map start_of guests) board shared k guests
+fresh-guests board shared pre k [] e fresh = let n = length-append pre [] in omega arith
+fresh-guests board shared pre k (g ∷ guests) e fresh =
     let first = fresh zero g refl in
     let here : k + 0 ≡ k = omega arith in
     let longer : k + 1 ≡ length (pre ++ g.start ∷ []) = (let n = length-append pre (g.start ∷ []) in omega arith) in (
@@ -68,11 +72,12 @@ fresh-guests board table pre k (g ∷ guests) e fresh =
         number_is = first.number_is ∙ here;
         start_is = at-end pre g.start (map start_of guests) k e;
         board_is = first.board_is;
-        table_is = first.table_is;
+        shared_is = first.shared_is;
+        own_is = first.own_is ∙ (let e : k + 0 ≡ k = omega arith in e);
         goes_on = λ same. (let both : None ≡ Some Budget = sym first.goes_on ∙ same in absurd cc);
       },
-      subst (λ l. GuestsFrom l board table (k + 1) guests) (append_assoc pre (g.start ∷ []) (map start_of guests))
-          (fresh-guests board table (pre ++ g.start ∷ []) (k + 1) guests longer (λ i h at. subst (λ n. IsFresh board table n h) (let n : k + suc i ≡ k + 1 + i = omega arith in n) (fresh (suc i) h at))),
+      subst (λ l. GuestsFrom l board shared (k + 1) guests) (append_assoc pre (g.start ∷ []) (map start_of guests))
+          (fresh-guests board shared (pre ++ g.start ∷ []) (k + 1) guests longer (λ i h at. subst (λ n. IsFresh board shared n h) (let n : k + suc i ≡ k + 1 + i = omega arith in n) (fresh (suc i) h at))),
     )
   where
     at-end : (pre : List Boot) (x : Boot) (xs : List Boot) (k : ℕ) → k ≡ length pre → slice_get (pre ++ x ∷ xs) k ≡ Some x
@@ -82,8 +87,8 @@ fresh-guests board table pre k (g ∷ guests) e fresh =
         here [] x xs = refl
         here (p ∷ pre) x xs = here pre x xs
 
-pub all-guests : (board : TableId) (table : MadeTable) (guests : List Monitored) → ((g : ℕ) (guest : Monitored) → slice_get guests g ≡ Some guest → IsFresh board table g guest) → GuestsFrom (map start_of guests) board table 0 guests
-all-guests board table guests fresh = fresh-guests board table [] 0 guests refl (λ i g at. subst (λ n. IsFresh board table n g) (let e : i ≡ 0 + i = omega arith in e) (fresh i g at))
+pub all-guests : (board : TableId) (shared : Shared) (guests : List Monitored) → ((g : ℕ) (guest : Monitored) → slice_get guests g ≡ Some guest → IsFresh board shared g guest) → GuestsFrom (map start_of guests) board shared 0 guests
+all-guests board shared guests fresh = fresh-guests board shared [] 0 guests refl (λ i g at. subst (λ n. IsFresh board shared n g) (let e : i ≡ 0 + i = omega arith in e) (fresh i g at))
 
 -- ---- workers
 
@@ -204,3 +209,35 @@ records-from pre (b ∷ boots) board k (s ∷ states) (r ∷ lefts) (t ∷ seats
 
 pub all-records : (boots : List Boot) (board : TableId) (states : List GuestState) (lefts : List GuestRecord) (seats : List Seat) → AreLeft boots board 0 states lefts seats → length lefts ≡ length boots → AreRecords boots states lefts
 all-records boots board states lefts seats are same = records-from [] boots board 0 states lefts seats refl are same
+
+-- ---- the ends of the wires
+
+-- each guest is told its own number
+pub starts-numbers : (guests : List Monitored) → ((g : ℕ) (guest : Monitored) → slice_get guests g ≡ Some guest → guest.start.around.guest ≡ g) → (i : ℕ) (b : Boot) → slice_get (map start_of guests) i ≡ Some b → b.around.guest ≡ i
+starts-numbers guests numbers i b at = let x = get-map start_of guests i b at in ap (λ (y : Boot). y.around.guest) (sym x.2) ∙ numbers i x.0 x.1
+
+passes-from : (starts : List Boot) (wires : Made) (k : ℕ) (states : List GuestState) (lefts : List GuestRecord) (lists : List PassList) → AllTold starts wires k states lefts lists → ((i : ℕ) (b : Boot) → slice_get starts i ≡ Some b → b.around.guest ≡ i)
+    → All (IsListOf wires) lists × ((i : ℕ) → i < length lists → get_or (guests_of lists) i 0 ≡ k + i) × (length lists ≡ length lefts)
+passes-from starts wires k [] [] [] told numbers = (All-nil (IsListOf wires), (λ i lt. absurd (let m : i < 0 = lt in omega arith)), refl)
+passes-from starts wires k [] [] (t ∷ lists) told numbers = absurd told
+passes-from starts wires k [] (r ∷ lefts) lists told numbers = absurd told
+passes-from starts wires k (s ∷ states) [] lists told numbers = absurd told
+passes-from starts wires k (s ∷ states) (r ∷ lefts) [] told numbers = absurd told
+passes-from starts wires k (s ∷ states) (r ∷ lefts) (t ∷ lists) told numbers =
+    let rest = passes-from starts wires (k + 1) states lefts lists told.1 numbers in
+    let wired = told.0.2.wired in
+    let number = wired.number ∙ numbers k told.0.0 told.0.1 in
+    (All-cons (IsListOf wires) t lists wired.list rest.0, by number rest.1, ap suc rest.2)
+  where
+    by : t.guest.0 ≡ k → ((i : ℕ) → i < length lists → get_or (guests_of lists) i 0 ≡ k + 1 + i) → (i : ℕ) → i < length (t ∷ lists) → get_or (guests_of (t ∷ lists)) i 0 ≡ k + i
+    by number more zero lt = omega (arith, number)
+    by number more (suc i) lt = let m = more i (omega (arith, lt)) in omega (arith, m)
+
+pub all-passes : (starts : List Boot) (wires : Made) (states : List GuestState) (lefts : List GuestRecord) (lists : List PassList) → AllTold starts wires 0 states lefts lists → length lefts ≡ guest_count wires → ((i : ℕ) (b : Boot) → slice_get starts i ≡ Some b → b.around.guest ≡ i) → AreAllOf wires lists
+all-passes starts wires states lefts lists told count numbers =
+    let are = passes-from starts wires 0 states lefts lists told numbers in
+    record {
+      all = are.2 ∙ count;
+      numbered = λ i lt. let n = are.1 i (omega (arith, lt, are.2, count)) in omega (arith, n);
+      each = are.0;
+    }

@@ -7,7 +7,7 @@ use Rattle.std.proofs.lemmas.List.{length-map}
 use Rattle.atomic_table.specs.Seated.{TableId}
 use Rattle.base_words.specs.declared.input.InputEntry.{InputEntry}
 use Rattle.run_workers.specs.declared.source.Source.{Source}
-use Rattle.frame_words.specs.Holders.{MadeTable, Holding}
+use Rattle.frame_words.specs.Holders.{Holding}
 use Rattle.shootdown.specs.Notes.{Token}
 use Rattle.shootdown.specs.Making.{numbered, fresh_token}
 use Rattle.isolation_law.specs.Start.{Boot}
@@ -17,7 +17,10 @@ use Rattle.machine_desc.specs.declared.plan.Item.TheVariants.{Run, Move, Fail}
 use Rattle.machine_desc.specs.Bounds.{IsItem}
 use Rattle.machine_desc.specs.Described.{Described}
 use Rattle.machine_desc.specs.Accepted.{IsAccepted}
-use Rattle.guest_core.specs.GuestView.{Monitored}
+use Rattle.wire_queue.specs.Between.{Made}
+use Rattle.wire_queue.specs.Closing.{AreInOrder}
+use Rattle.wire_queue.specs.declared.lists.PassList.{PassList}
+use Rattle.guest_core.specs.GuestView.{Monitored, Shared}
 use Rattle.guest_core.specs.declared.records.RunRecord.{RunRecord}
 use Rattle.run_workers.specs.Starting.{IsStart, AreStarts, AreSources}
 use Rattle.run_workers.specs.WholeRecord.{IsWhole}
@@ -26,6 +29,7 @@ use Rattle.run_workers.specs.Booting.{start_of, IsFresh, IsStarted, AreBooted, H
 use Rattle.run_workers.specs.Named.{board_of_tokens, MayRun, IsRunOf}
 use Rattle.run_workers.proofs.WholeLemmas.{get-index, all-get, get-there}
 use Rattle.run_workers.proofs.RunLemmas.{map-get, numbered-length}
+use Rattle.run_workers.proofs.PacketLemmas.{meet-wires}
 
 first-board : (board : TableId) (n : ℕ) → 0 < n → board_of_tokens (numbered (fresh_token board) 0 n) ≡ board
 first-board board zero some = absurd (omega arith)
@@ -38,35 +42,35 @@ same-some : {A : Type 0} (x y : A) → Some x ≡ Some y → x ≡ y
 same-some x y e = cc
 
 -- the guest of a number, as it was started
-started-at : (d : Described) (sources : List Source) (board : TableId) (table : MadeTable) (guests : List Monitored) (g : ℕ) (guest : Monitored) → AreBooted d sources board table guests → slice_get guests g ≡ Some guest → (source : Source) × (slice_get sources g ≡ Some source) × IsStarted d source board table g guest
-started-at d sources board table guests g guest are at =
+started-at : (d : Described) (sources : List Source) (board : TableId) (shared : Shared) (guests : List Monitored) (g : ℕ) (guest : Monitored) → AreBooted d sources board shared guests → slice_get guests g ≡ Some guest → (source : Source) × (slice_get sources g ≡ Some source) × IsStarted d source board shared g guest
+started-at d sources board shared guests g guest are at =
     let few = (get-index guests g guest guest at).0 in
     let count = are.count in
     let source = get-there sources g (omega arith) in
     (source.0, source.1, are.each g guest source.0 at source.1)
 
-item-fits : (d : Described) (sources : List Source) (board : TableId) (table : MadeTable) (guests : List Monitored) (item : Item) → length guests ≡ length d.guests → AreBooted d sources board table guests → IsItem d item → ItemFits (map start_of guests) item
-item-fits d sources board table guests (Run p g v steps) count are is = by (slice_get d.guests g.0) refl is.of
+item-fits : (d : Described) (sources : List Source) (board : TableId) (shared : Shared) (guests : List Monitored) (item : Item) → length guests ≡ length d.guests → AreBooted d sources board shared guests → IsItem d item → ItemFits (map start_of guests) item
+item-fits d sources board shared guests (Run p g v steps) count are is = by (slice_get d.guests g.0) refl is.of
   where
     by : (o : Option GuestSpec) → slice_get d.guests g.0 ≡ o → IsSomeAnd o (λ spec. v.0 < spec.vcpus) → ItemFits (map start_of guests) (Run p g v steps)
     by None e of = absurd of
     by (Some spec) e of =
         let few = (get-index d.guests g.0 spec spec e).0 in
         let guest = get-there guests g.0 (let l : g.0 < length guests = omega arith in l) in
-        let started = started-at d sources board table guests g.0 guest.0 are guest.1 in
+        let started = started-at d sources board shared guests g.0 guest.0 are guest.1 in
         let same = same-some started.2.spec spec (sym started.2.spec_is ∙ e) in
         let vcpus : guest.0.start.vcpus ≡ spec.vcpus = started.2.start.vcpus ∙ ap (λ (s : GuestSpec). s.vcpus) same in
         record { start = guest.0.start; named = map-get start_of guests g.0 guest.0 guest.1; vcpu = subst (λ n. v.0 < n) (sym vcpus) of }
-item-fits d sources board table guests (Move p g page kind node) count are is = tt
-item-fits d sources board table guests (Fail p cell) count are is = tt
+item-fits d sources board shared guests (Move p g page kind node) count are is = tt
+item-fits d sources board shared guests (Fail p cell) count are is = tt
 
 item-on : (d : Described) (count : ℕ) (item : Item) → count ≡ length d.processors → IsItem d item → IsOn count item
 item-on d count (Run p g v steps) same is = subst (λ n. p.0 < n) (sym same) is.on
 item-on d count (Move p g page kind node) same is = tt
 item-on d count (Fail p cell) same is = tt
 
-pub may-run : (d : Described) (sources : List Source) (guests : List Monitored) (tokens : List Token) (table : MadeTable) (holder : Holding) → IsAccepted d → length sources ≡ length d.guests → HasBooted d sources guests tokens table holder → MayRun guests tokens table d.items
-may-run d sources guests tokens table holder accepted many booted =
+pub may-run : (d : Described) (sources : List Source) (guests : List Monitored) (tokens : List Token) (shared : Shared) (holder : Holding) → IsAccepted d → length sources ≡ length d.guests → HasBooted d sources guests tokens shared holder → MayRun guests tokens shared d.items
+may-run d sources guests tokens shared holder accepted many booted =
     let board = booted.board in
     let are = booted.guests_are in
     let count = are.count in
@@ -79,11 +83,13 @@ may-run d sources guests tokens table holder accepted many booted =
     record {
       few = omega arith;
       some = subst (λ n. 0 < n) (sym length-is) some;
-      guests_are = λ g guest at. subst (λ b. IsFresh b table g guest) (sym board-is) (started-at d sources board table guests g guest are at).2.fresh;
+      guests_are = λ g guest at. subst (λ b. IsFresh b shared g guest) (sym board-is) (started-at d sources board shared guests g guest are at).2.fresh;
+      numbers = λ g guest at. (let started = (started-at d sources board shared guests g guest are at).2 in ap (λ w. w.guest) started.start.around);
+      wires = booted.wires;
       tokens_are = booted.tokens_are ∙ (λ k. numbered (fresh_token (sym board-is k)) 0 (sym length-is k));
-      processors = λ g guest at. (let started = (started-at d sources board table guests g guest are at).2 in ap (λ w. length w.processors) started.start.around ∙ length-map d.processors (λ n. n.0) ∙ sym length-is);
+      processors = λ g guest at. (let started = (started-at d sources board shared guests g guest are at).2 in ap (λ w. length w.processors) started.start.around ∙ length-map d.processors (λ n. n.0) ∙ sym length-is);
       few_items = omega arith;
-      places = λ i e l. item-fits d sources board table guests (slice_index_or d.items i e) all are (accepted.items i e l);
+      places = λ i e l. item-fits d sources board shared guests (slice_index_or d.items i e) all are (accepted.items i e l);
       on = λ i e l. item-on d (length tokens) (slice_index_or d.items i e) length-is (accepted.items i e l);
     }
 
@@ -102,8 +108,8 @@ starts-from d k (s ∷ specs) (i ∷ sources) (n ∷ inputs) (g ∷ guests) a b 
   starts-from d (suc k) specs sources inputs guests (omega arith) (omega arith) (omega arith) (λ j spec source input guest p q r t. subst (λ m. IsStart d m spec source input guest.start) (let e : k + suc j ≡ suc k + j = omega arith in e) (each (suc j) spec source input guest p q r t)),
 )
 
-pub all-starts : (d : Described) (sources : List Source) (guests : List Monitored) (tokens : List Token) (table : MadeTable) (holder : Holding) → IsAccepted d → length sources ≡ length d.guests → HasBooted d sources guests tokens table holder → AreStarts d 0 d.guests sources d.input (map start_of guests)
-all-starts d sources guests tokens table holder accepted many booted =
+pub all-starts : (d : Described) (sources : List Source) (guests : List Monitored) (tokens : List Token) (shared : Shared) (holder : Holding) → IsAccepted d → length sources ≡ length d.guests → HasBooted d sources guests tokens shared holder → AreStarts d 0 d.guests sources d.input (map start_of guests)
+all-starts d sources guests tokens shared holder accepted many booted =
     starts-from d 0 d.guests sources d.input guests many accepted.each_input (booted.guests_are.count ∙ many) (λ i spec source input guest p q r t.
     let started = booted.guests_are.each i guest source t q in
     let same-spec = same-some started.spec spec (sym started.spec_is ∙ p) in
@@ -111,8 +117,13 @@ all-starts d sources guests tokens table holder accepted many booted =
     let is = subst (λ (x : GuestSpec). IsStart d i x source started.input guest.start) same-spec started.start in
     subst (λ m. IsStart d m spec source input guest.start) (let e : i ≡ 0 + i = omega arith in e) (subst (λ (x : List InputEntry). IsStart d i spec source x guest.start) same-input is))
 
-pub is-whole : (d : Described) (boots : List Boot) (out : RunRecord) → IsRunOf boots d.items out → IsWhole d boots out
-is-whole d boots out is = record { states = is.states; guests = is.guests; due = is.due }
+pub is-whole : (d : Described) (boots : List Boot) (wires : Made) (out : RunRecord) (lists : List PassList) → IsRunOf boots d.items wires out lists → ((i : ℕ) (b : Boot) → slice_get boots i ≡ Some b → b.around.guest ≡ i) → AreInOrder lists → IsWhole d boots out
+is-whole d boots wires out lists is numbers ordered = record {
+  states = is.states;
+  guests = is.guests;
+  due = is.due;
+  packets = meet-wires boots wires is.states out.guests lists is.told numbers is.drained ordered;
+}
 
 pub on-ok : {A : Type 0} (P Q : A → Type 0) (r : Result A AllocError) → ((x : A) → P x → Q x) → IfOk r P → IfOk r Q
 on-ok P Q (Ok x) then holds = then x holds

@@ -1,5 +1,5 @@
 -- The guests of a description, booted.
-use Rattle.std.specs.Prelude.{◌≡◌, ℕ, List, [], ◌∷◌, length, map, None, Some, slice_get, slice_index}
+use Rattle.std.specs.Prelude.{◌≡◌, ℕ, List, [], ◌∷◌, length, map, All, None, Some, slice_get, slice_index}
 use Rattle.atomic_table.specs.Seated.{TableId}
 use Rattle.base_words.specs.declared.input.InputEntry.{InputEntry}
 use Rattle.frame_words.specs.Holders.{MadeTable, Holding, IsMade}
@@ -15,9 +15,12 @@ use Rattle.machine_desc.specs.declared.machine.GuestSpec.{GuestSpec}
 use Rattle.machine_desc.specs.declared.machine.Machine.{Machine}
 use Rattle.machine_desc.specs.Described.{Described}
 use Rattle.guest_course.specs.declared.site.Site.{Site}
-use Rattle.guest_core.specs.GuestView.{Monitored, IsTableOf}
+use Rattle.guest_core.specs.GuestView.{Monitored, Shared, AreOf}
 use Rattle.boot_frames.specs.Needs.{need_of}
 use Rattle.run_workers.specs.Starting.{IsStart}
+use Rattle.wire_queue.specs.Between.{Made, guest_count}
+use Rattle.wire_queue.specs.PassLists.{IsListOf, IsUnused, JoinsAll, AreAllOf}
+use Rattle.wire_queue.specs.declared.lists.PassList.{PassList}
 
 -- the home cell of a guest
 abbrev pub home_in : Machine → GuestSpec → ℕ
@@ -36,16 +39,17 @@ pub record IsSite (machine : Machine) (site : Site) : Type 0 where
 abbrev pub IsLotOf : MadeTable → Layout → GuestSpec → Lot → Type 0
 IsLotOf table layout spec lot = (left : Left) × Serves table layout left (need_of spec) lot
 
--- a guest of this number that goes on, with a seat of this board and a holder of this table
-pub record IsFresh (board : TableId) (table : MadeTable) (number : ℕ) (guest : Monitored) : Type 0 where
+-- a guest of this number that goes on, with a seat of this board, which shares this
+pub record IsFresh (board : TableId) (shared : Shared) (number : ℕ) (guest : Monitored) : Type 0 where
   pub number_is : guest.number ≡ number
   pub board_is : guest.board ≡ board
-  pub table_is : IsTableOf table guest
+  pub shared_is : AreOf shared guest
+  pub own_is : guest.passes.guest.0 ≡ number
   pub goes_on : guest.state.end ≡ None
 
 -- a guest of this number that was started as its description says, from this source
-pub record IsStarted (d : Described) (source : Source) (board : TableId) (table : MadeTable) (number : ℕ) (guest : Monitored) : Type 0 where
-  pub fresh : IsFresh board table number guest
+pub record IsStarted (d : Described) (source : Source) (board : TableId) (shared : Shared) (number : ℕ) (guest : Monitored) : Type 0 where
+  pub fresh : IsFresh board shared number guest
   pub spec : GuestSpec
   pub spec_is : slice_get d.guests number ≡ Some spec
   pub input : List InputEntry
@@ -53,9 +57,9 @@ pub record IsStarted (d : Described) (source : Source) (board : TableId) (table 
   pub start : IsStart d number spec source input guest.start
 
 -- a guest of each source, in order
-pub record AreBooted (d : Described) (sources : List Source) (board : TableId) (table : MadeTable) (guests : List Monitored) : Type 0 where
+pub record AreBooted (d : Described) (sources : List Source) (board : TableId) (shared : Shared) (guests : List Monitored) : Type 0 where
   pub count : length guests ≡ length sources
-  pub each : (g : ℕ) (guest : Monitored) (source : Source) → slice_get guests g ≡ Some guest → slice_get sources g ≡ Some source → IsStarted d source board table g guest
+  pub each : (g : ℕ) (guest : Monitored) (source : Source) → slice_get guests g ≡ Some guest → slice_get sources g ≡ Some source → IsStarted d source board shared g guest
 
 -- a seat of this board and number, without notes
 pub record IsSeat (board : TableId) (number : ℕ) (seat : Seat) : Type 0 where
@@ -75,13 +79,31 @@ pub record AreSeats (count : ℕ) (seats : List Seat) : Type 0 where
   pub all : length seats ≡ count
   pub each : (g : ℕ) (seat : Seat) → slice_get seats g ≡ Some seat → IsSeat (board_of seats) g seat
 
--- the guests and the tokens of a description, of one board; and the table of the guests' frames with its first holder, which has nothing
-pub record HasBooted (d : Described) (sources : List Source) (guests : List Monitored) (tokens : List Token) (table : MadeTable) (holder : Holding) : Type 0 where
+-- the guests and the tokens of a description, of one board; the table of the guests' frames with its first holder, which has nothing;
+-- and the wires between the guests
+pub record HasBooted (d : Described) (sources : List Source) (guests : List Monitored) (tokens : List Token) (shared : Shared) (holder : Holding) : Type 0 where
   pub board : TableId
-  pub made : IsMade table holder
+  pub made : IsMade shared.table holder
   pub nothing : holder.view.holds ≡ []
-  pub guests_are : AreBooted d sources board table guests
+  pub wires : guest_count shared.wires ≡ length guests
+  pub guests_are : AreBooted d sources board shared guests
   pub tokens_are : tokens ≡ numbered (fresh_token board) 0 (length d.processors)
+
+-- the wires join so many guests
+pub record AreWires (count : ℕ) (wires : Made) : Type 0 where
+  pub joins : JoinsAll wires
+  pub all : guest_count wires ≡ count
+
+-- the ends of its wires of the guest of this number, of which none was used
+pub record HasPasses (wires : Made) (number : ℕ) (passes : PassList) : Type 0 where
+  pub list : IsListOf wires passes
+  pub guest_is : passes.guest.0 ≡ number
+  pub unused : IsUnused passes
+
+-- those of all guests, in order
+pub record HaveAllPasses (wires : Made) (lists : List PassList) : Type 0 where
+  pub all : AreAllOf wires lists
+  pub unused : All IsUnused lists
 
 -- what a guest was started from
 abbrev pub start_of : Monitored → Boot

@@ -6,6 +6,7 @@ pub mod Slices
 pub mod Working
 pub mod Jobs
 pub mod Dealt
+pub mod Draining
 pub mod Ending
 pub mod Workers
 pub mod Parts

@@ -1,39 +1,46 @@
 -- What a run needs of its guests, tokens and items, and what it leaves.
 use Rattle.std.specs.Prelude.{◌≡◌, ℕ, ◌<◌, ◌≤◌, ◌^◌, List, [], ◌∷◌, length, map, All, slice_get, Some}
 use Rattle.atomic_table.specs.Seated.{TableId}
-use Rattle.frame_words.specs.Holders.{MadeTable}
 use Rattle.shootdown.specs.Notes.{Token}
 use Rattle.shootdown.specs.Making.{numbered, fresh_token}
 use Rattle.isolation_law.specs.GuestState.{GuestState}
 use Rattle.isolation_law.specs.Start.{Boot}
 use Rattle.machine_desc.specs.declared.plan.Item.{Item}
-use Rattle.guest_core.specs.GuestView.{Monitored}
+use Rattle.guest_core.specs.GuestView.{Monitored, Shared}
 use Rattle.guest_core.specs.declared.records.RunRecord.{RunRecord}
+use Rattle.wire_queue.specs.Between.{Made, guest_count}
+use Rattle.wire_queue.specs.declared.lists.PassList.{PassList}
 use Rattle.run_workers.specs.Planned.{planned}
 use Rattle.run_workers.specs.PlanDue.{IsDue}
 use Rattle.run_workers.specs.WholeRecord.{AreRecords}
 use Rattle.run_workers.specs.Working.{ItemFits, IsOn}
 use Rattle.run_workers.specs.Booting.{no_board, start_of, IsFresh}
+use Rattle.run_workers.specs.Ending.{AllTold, EndDrained}
 
 -- the board of the first token
 abbrev pub board_of_tokens : List Token → TableId
 board_of_tokens [] = no_board
 board_of_tokens (token ∷ tokens) = token.board
 
--- guests and tokens of one board, the guests' holders of one table, the tokens without notes, one for each processor of each guest; and a
+-- guests and tokens of one board, the guests with what they share, the tokens without notes, one for each processor of each guest; and a
 -- plan for them
-pub record MayRun (guests : List Monitored) (tokens : List Token) (table : MadeTable) (items : List Item) : Type 0 where
+pub record MayRun (guests : List Monitored) (tokens : List Token) (shared : Shared) (items : List Item) : Type 0 where
   pub few : length guests ≤ 8
   pub some : 0 < length tokens
-  pub guests_are : (g : ℕ) (guest : Monitored) → slice_get guests g ≡ Some guest → IsFresh (board_of_tokens tokens) table g guest
+  pub guests_are : (g : ℕ) (guest : Monitored) → slice_get guests g ≡ Some guest → IsFresh (board_of_tokens tokens) shared g guest
   pub tokens_are : tokens ≡ numbered (fresh_token (board_of_tokens tokens)) 0 (length tokens)
+  pub numbers : (g : ℕ) (guest : Monitored) → slice_get guests g ≡ Some guest → guest.start.around.guest ≡ g
+  pub wires : guest_count shared.wires ≡ length guests
   pub processors : (g : ℕ) (guest : Monitored) → slice_get guests g ≡ Some guest → length guest.start.around.processors ≡ length tokens
   pub few_items : length items < 2 ^ 32
   pub places : All (ItemFits (map start_of guests)) items
   pub on : All (IsOn (length tokens)) items
 
--- the record of a run of these guests: each journal leads from its guest's start to its last state, and all is due
-pub record IsRunOf (boots : List Boot) (items : List Item) (out : RunRecord) : Type 0 where
+-- the record of a run of these guests: each journal leads from its guest's start to its last state, and all is due; and their ends of
+-- these wires
+pub record IsRunOf (boots : List Boot) (items : List Item) (wires : Made) (out : RunRecord) (lists : List PassList) : Type 0 where
   pub states : List GuestState
   pub guests : AreRecords boots states out.guests
   pub due : IsDue (planned 0 items) states out.guests out.slices
+  pub told : AllTold boots wires 0 states out.guests lists
+  pub drained : EndDrained states lists

@@ -1,7 +1,8 @@
 -- The whole record of a run.
-use Rattle.std.specs.Prelude.{List, [], ◌∷◌}
+use Rattle.std.specs.Prelude.{◌≡◌, ◌≢◌, ℕ, List, [], ◌∷◌, All, Some, slice_get}
 use Rattle.isolation_law.specs.GuestState.{GuestState}
 use Rattle.isolation_law.specs.Start.{Boot}
+use Rattle.isolation_law.specs.WireHistory.{IsFromOther, MeetsWire, taken}
 use Rattle.machine_desc.specs.Described.{Described}
 use Rattle.guest_core.specs.declared.records.GuestRecord.{GuestRecord}
 use Rattle.guest_core.specs.declared.records.RunRecord.{RunRecord}
@@ -15,8 +16,14 @@ AreRecords [] [] [] = Unit {0}
 AreRecords (b ∷ boots) (s ∷ states) (guest ∷ guests) = IsRecord b s guest × AreRecords boots states guests
 AreRecords boots states guests = ⊥
 
--- and the record is due for the plan
+-- What each guest took of what another sent to it is the first of what the wire between them accepted; and it took nothing else.
+pub record MeetWires (states : List GuestState) (guests : List GuestRecord) : Type 0 where
+  pub between : (i j : ℕ) (sender receiver : GuestState) (left : GuestRecord) → slice_get states i ≡ Some sender → slice_get states j ≡ Some receiver → slice_get guests j ≡ Some left → i ≢ j → MeetsWire sender receiver left.journal.entries
+  pub others : (j : ℕ) (receiver : GuestState) (left : GuestRecord) → slice_get states j ≡ Some receiver → slice_get guests j ≡ Some left → All (IsFromOther receiver) (taken left.journal.entries receiver)
+
+-- the record is due for the plan, and its packets are those of the wires
 pub record IsWhole (d : Described) (boots : List Boot) (out : RunRecord) : Type 0 where
   pub states : List GuestState
   pub guests : AreRecords boots states out.guests
   pub due : IsDue (planned 0 d.items) states out.guests out.slices
+  pub packets : MeetWires states out.guests

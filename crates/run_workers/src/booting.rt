@@ -13,7 +13,7 @@ ghost use Rattle.node_frames.specs.Left.{first_left};
 ghost use Rattle.boot_frames.specs.Lots.{ServesAll};
 ghost use Rattle.boot_frames.specs.Needs.{need_of};
 ghost use Rattle.run_workers.specs.Starting.{IsBuilt, IsSource, AreSources, AreServed};
-ghost use Rattle.run_workers.specs.Booting.{home_in, IsSite, IsSeat, board_of, AreSeats, IsLotOf, IsStarted, AreBooted, HasBooted};
+ghost use Rattle.run_workers.specs.Booting.{home_in, IsSite, IsSeat, board_of, AreSeats, IsLotOf, IsStarted, AreBooted, HasBooted, AreWires, HasPasses, HaveAllPasses};
 
 use crate::{Source, SourceList};
 use base_words::{CellList, GuestId, Sequence, Shape};
@@ -24,6 +24,7 @@ use guest_course::{Around, Site};
 use machine_desc::{Machine, Plan};
 use shootdown::{GuestSeat, SeatList, TokenList, tokens};
 use std::alloc::{AllocError, Global};
+use wire_queue::{AllPasses, PassList, Wires};
 
 /// A copy of a list.
 fn copied<T: Copy>(alloc: Global, list: &Sequence<T>) -> Result<Sequence<T>, AllocError>
@@ -103,6 +104,8 @@ fn boot_one(
     lot: Lot,
     seat: GuestSeat,
     table: &FrameTable,
+    wires: &Wires,
+    passes: PassList,
 ) -> Result<Guest, AllocError>
     requires described { IsDescribed machine.now plan.now }
     requires built { IsBuilt (described_seen machine.now plan.now) }
@@ -112,7 +115,9 @@ fn boot_one(
     requires seat { IsSeat seat.board number seat }
     requires frames { table.now.terms.frames ≡ machine.now.shape.nodes * machine.now.shape.frames }
     requires lends { table.now.terms.lends ≡ machine.now.lends }
-    ensures { IfOk result (IsStarted (described_seen machine.now plan.now) source seat.board table.now number) }
+    requires wires { AreWires (length machine.now.guests) wires.now }
+    requires passes { HasPasses wires.now number passes }
+    ensures { IfOk result (IsStarted (described_seen machine.now plan.now) source seat.board (record { table = table.now; wires = wires.now }) number) }
 {
     a_lot_holds_its_frames();
     let _ = table;
@@ -126,7 +131,7 @@ fn boot_one(
     let Lot { frames, holder } = lot;
     let input = &plan.input.as_slice()[number];
     Guest::boot(
-        alloc, image, around, spec.vcpus, input, frames, disk, holder, seat,
+        alloc, image, around, spec.vcpus, input, frames, disk, holder, seat, wires, passes,
     )
 }
 
@@ -139,6 +144,8 @@ fn boot_all(
     lots: Vec<Lot>,
     seats: SeatList,
     table: &FrameTable,
+    wires: &Wires,
+    passes: AllPasses,
 ) -> Result<Vec<Guest>, AllocError>
     requires described { IsDescribed machine.now plan.now }
     requires built { IsBuilt (described_seen machine.now plan.now) }
@@ -147,11 +154,14 @@ fn boot_all(
     requires seats { AreSeats (length sources) seats }
     requires frames { table.now.terms.frames ≡ machine.now.shape.nodes * machine.now.shape.frames }
     requires lends { table.now.terms.lends ≡ machine.now.lends }
-    ensures { IfOk result (λ guests. AreBooted (described_seen machine.now plan.now) sources (board_of seats) table.now guests.items) }
+    requires wires { AreWires (length machine.now.guests) wires.now }
+    requires passes { HaveAllPasses wires.now passes }
+    ensures { IfOk result (λ guests. AreBooted (described_seen machine.now plan.now) sources (board_of seats) (record { table = table.now; wires = wires.now }) guests.items) }
 {
     each_guest_has_its_lot();
     let mut seats = seats.into_vec().into_iter();
     let mut lots = lots.into_iter();
+    let mut passes = passes.into_vec().into_iter();
     let mut guests: Vec<Guest> = Vec::new(alloc);
     for source in sources.into_vec() {
         let Some(seat) = seats.next() else {
@@ -160,20 +170,26 @@ fn boot_all(
         let Some(lot) = lots.next() else {
             unreachable!();
         };
+        let Some(ends) = passes.next() else {
+            unreachable!();
+        };
         let number = guests.len();
-        guests.push(boot_one(alloc, machine, plan, number, source, lot, seat, table)?)?;
+        guests.push(boot_one(
+            alloc, machine, plan, number, source, lot, seat, table, wires, ends,
+        )?)?;
     }
     Ok(guests)
 }
 
-/// What a run begins with: the guests of a description, a token for each of its processors, and the table of the guests' frames with its
-/// first holder, which has nothing.
+/// What a run begins with: the guests of a description, a token for each of its processors, the table of the guests' frames with its
+/// first holder, which has nothing, and the wires between the guests.
 #[derive(Drop)]
 pub(crate) struct Booted {
     pub(crate) guests: Vec<Guest>,
     pub(crate) tokens: TokenList,
     pub(crate) table: FrameTable,
     pub(crate) holder: Holder,
+    pub(crate) wires: Wires,
 }
 
 /// The guests of a description, with all that their run begins with.
@@ -187,17 +203,23 @@ pub(crate) fn boot(
     requires built { IsBuilt (described_seen machine.now plan.now) }
     requires served { AreServed (layout_of machine.now.shape) machine.now.lends machine.now.guests }
     requires sources { AreSources machine.now.guests sources }
-    ensures { IfOk result (λ b. HasBooted (described_seen machine.now plan.now) sources b.guests.items b.tokens b.table b.holder) }
+    ensures { IfOk result (λ b. HasBooted (described_seen machine.now plan.now) sources b.guests.items b.tokens (record { table = b.table; wires = b.wires }) b.holder) }
 {
     let frames = u32::from(machine.shape.nodes) * machine.shape.frames;
     let (table, mut holder) = FrameTable::new(alloc, frames, machine.lends.as_slice(), 0)?;
     let lots = lots_of(alloc, machine, plan, &table, &mut holder)?;
-    let (tokens, seats) = tokens(alloc, machine.processors.len() as u8, sources.len() as u8)?;
-    let guests = boot_all(alloc, machine, plan, sources, lots, seats, &table)?;
+    let count = sources.len() as u8;
+    let (tokens, seats) = tokens(alloc, machine.processors.len() as u8, count)?;
+    let homes = homes_of(alloc, machine)?;
+    let (wires, passes) = Wires::new(alloc, count, &machine.shape, &homes)?;
+    let guests = boot_all(
+        alloc, machine, plan, sources, lots, seats, &table, &wires, passes,
+    )?;
     Ok(Booted {
         guests,
         tokens,
         table,
         holder,
+        wires,
     })
 }

@@ -33,7 +33,8 @@ fn serve_at<N: Starts, const G: u8, R: Wait, T: Gate>(
     requires guest { job.guest.0 ≡ G }
     requires place { HasPlace N.starts job.guest.0 job.vcpu.0 }
     requires free { shown G token.old ≡ None }
-    requires table { resources.now.table.now ≡ N.table }
+    requires table { resources.now.table.now ≡ N.shared.table }
+    requires wires { resources.now.wires.now ≡ N.shared.wires }
     ensures served { IfOk result (λ slice. Serves (planned_job token.old.number job) token.old slice token.new) }
     ensures same { IsSameToken token.old token.new }
 {
@@ -57,7 +58,8 @@ fn serve_job<N: Starts, R: Wait, T: Gate>(
     requires token { Fits N.starts N.board token.old }
     requires place { HasPlace N.starts job.guest.0 job.vcpu.0 }
     requires free { shown job.guest.0 token.old ≡ None }
-    requires table { resources.now.table.now ≡ N.table }
+    requires table { resources.now.table.now ≡ N.shared.table }
+    requires wires { resources.now.wires.now ≡ N.shared.wires }
     ensures served { IfOk result (λ slice. Serves (planned_job token.old.number job) token.old slice token.new) }
     ensures same { IsSameToken token.old token.new }
 {
@@ -89,7 +91,8 @@ fn carry_one<N: Starts, R: Wait, T: Gate>(
     requires token { Fits N.starts N.board token.old }
     requires place { ItemFits N.starts item }
     requires free { (g : _) → shown g token.old ≡ None }
-    requires table { resources.now.table.now ≡ N.table }
+    requires table { resources.now.table.now ≡ N.shared.table }
+    requires wires { resources.now.wires.now ≡ N.shared.wires }
     ensures carried { IfOk result (λ slice. CarriesOne number item token.old slice token.new) }
     ensures same { IsSameToken token.old token.new }
 {
@@ -139,7 +142,8 @@ pub(crate) fn carry_out<N: Starts, R: Wait, T: Gate>(
     requires token { Fits N.starts N.board token.old }
     requires places { All (ItemFits N.starts) items.now }
     requires no_notes { token.old.notes ≡ [] }
-    requires table { resources.now.table.now ≡ N.table }
+    requires table { resources.now.table.now ≡ N.shared.table }
+    requires wires { resources.now.wires.now ≡ N.shared.wires }
     ensures told { IfOk result (λ slices. AreTold (own token.new.number (planned 0 items.now)) slices.items token.new.notes) }
     ensures same { IsSameToken token.old token.new }
 {

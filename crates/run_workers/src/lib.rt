@@ -3,6 +3,7 @@
 
 mod booting;
 mod carrying;
+mod draining;
 mod ending;
 mod ordering;
 mod running;

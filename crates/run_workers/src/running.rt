@@ -8,10 +8,12 @@ ghost use Rattle.machine_desc.specs.Accepted.{IsDescribed};
 ghost use Rattle.run_workers.specs.Starting.{IsBuilt, AreSources, AreStarts, AreServed};
 ghost use Rattle.run_workers.specs.WholeRecord.{IsWhole};
 ghost use Rattle.run_workers.specs.Booting.{start_of};
+ghost use Rattle.wire_queue.specs.PassLists.{AreAllOf};
 ghost use Rattle.run_workers.specs.Named.{board_of_tokens, MayRun, IsRunOf};
 
 use crate::SourceList;
 use crate::booting::boot;
+use crate::draining::settle_all;
 use crate::ending::end_all;
 use crate::ordering::in_order;
 use crate::workers::{all_work, parts, workers_of};
@@ -25,9 +27,10 @@ use std::alloc::{AllocError, Global};
 use std::marker::Brand;
 use std::sync::Wait;
 use std::thread::Threads;
+use wire_queue::{AllPasses, Wires};
 
-/// The run that is named by its guests' starts, by its tokens' board, and by the table of its guests' holders. The first holder is left
-/// with nothing.
+/// The run that is named by its guests' starts, by its tokens' board, and by what its guests share. The first holder is left with nothing,
+/// and each guest's ends of the wires are left.
 fn run_named<N: Starts + Send + Sync, R: Threads + Wait + Sync, G: Gate>(
     rt: &R,
     alloc: Global,
@@ -35,30 +38,34 @@ fn run_named<N: Starts + Send + Sync, R: Threads + Wait + Sync, G: Gate>(
     tokens: TokenList,
     table: &FrameTable,
     first: &mut Holder,
+    wires: &Wires,
     plan: &Plan,
     gate: &G,
-) -> Result<RunRecord, AllocError>
+) -> Result<(RunRecord, AllPasses), AllocError>
     requires starts { N.starts ≡ map start_of guests.items }
     requires board { N.board ≡ board_of_tokens tokens }
-    requires table { N.table ≡ table.now }
-    requires may { MayRun guests.items tokens table.now plan.now.items }
+    requires shared { N.shared ≡ record { table = table.now; wires = wires.now } }
+    requires may { MayRun guests.items tokens (record { table = table.now; wires = wires.now }) plan.now.items }
     requires made { IsMade table.now first.old }
     requires nothing { first.old.view.holds ≡ [] }
-    ensures run { IfOk result (λ out. IsRunOf (map start_of guests.items) plan.now.items out) }
+    ensures run { IfOk result (λ out. IsRunOf (map start_of guests.items) plan.now.items wires.now out.0 out.1) }
+    ensures passes { IfOk result (λ out. AreAllOf wires.now out.1) }
     ensures nothing { IfOk result (λ out. first.new.view.holds ≡ []) }
     ensures same { IfOk result (λ out. first.new.table ≡ first.old.table) }
 {
-    let resources = Resources { table };
+    let resources = Resources { table, wires };
     let cells: GuestCells<N> = GuestCells::new(guests);
     let mut workers = workers_of(alloc, tokens)?;
     all_work(rt, alloc, &cells, &resources, plan, gate, &mut workers);
     let (tokens, queues) = parts(alloc, workers)?;
-    let (guests, seats) = end_all::<N>(alloc, cells.take_out(alloc)?, &resources, first)?;
+    let settled = settle_all::<N, R>(rt, alloc, cells.take_out(alloc)?, &resources)?;
+    let (guests, passes, seats) = end_all::<N>(alloc, settled, &resources, first)?;
     close_notes(tokens, seats);
-    Ok(RunRecord {
+    let record = RunRecord {
         guests,
         slices: in_order(alloc, plan.items.as_slice(), queues)?,
-    })
+    };
+    Ok((record, passes))
 }
 
 /// Starts the guests and carries the plan out. At the end each guest has given its frames back.
@@ -77,16 +84,18 @@ pub fn run<R: Threads + Wait + Sync, G: Gate>(
     ensures { IfOk result (λ out. (boots : List Boot) × AreStarts (described_seen machine.now plan.now) 0 machine.now.guests sources plan.now.input boots × IsWhole (described_seen machine.now plan.now) boots out) }
 {
     let mut booted = boot(alloc, machine, plan, sources)?;
-    let record = run_named::<Brand, R, G>(
+    let (record, passes) = run_named::<Brand, R, G>(
         rt,
         alloc,
         booted.guests,
         booted.tokens,
         &booted.table,
         &mut booted.holder,
+        &booted.wires,
         plan,
         gate,
     )?;
     close(booted.table, booted.holder);
+    booted.wires.close(passes);
     Ok(record)
 }

@@ -36,7 +36,8 @@ fn make_turns<N: Starts, const G: u8, R: Wait, T: Gate>(
 ) -> Burst
     requires token { Fits N.starts N.board token.old }
     requires loaded { shown G token.old ≢ None }
-    requires table { resources.now.table.now ≡ N.table }
+    requires table { resources.now.table.now ≡ N.shared.table }
+    requires wires { resources.now.wires.now ≡ N.shared.wires }
     ensures told { Bursts token.old G result token.new }
     ensures few { result.steps ≤ job.steps }
     ensures all { result.stop ≡ Paused → result.steps ≡ job.steps }
@@ -98,7 +99,8 @@ pub(crate) fn serve<N: Starts, const G: u8, R: Wait, T: Gate>(
     requires guest { job.guest.0 ≡ G }
     requires vcpu { HasVcpu N.starts G job.vcpu.0 }
     requires free { shown G token.old ≡ None }
-    requires table { resources.now.table.now ≡ N.table }
+    requires table { resources.now.table.now ≡ N.shared.table }
+    requires wires { resources.now.wires.now ≡ N.shared.wires }
     ensures served { IfOk result (λ slice. Serves (planned_job token.old.number job) token.old slice token.new) }
     ensures same { IsSameToken token.old token.new }
 {

@@ -52,7 +52,8 @@ fn work<N: Starts, R: Wait, T: Gate>(
 )
     requires plan { IsPlanOf N.starts plan.now.items }
     requires ready { IsReady N.starts N.board worker.old }
-    requires table { resources.now.table.now ≡ N.table }
+    requires table { resources.now.table.now ≡ N.shared.table }
+    requires wires { resources.now.wires.now ≡ N.shared.wires }
     ensures { Works plan.now.items worker.old worker.new }
 {
     worker.slices = carry_out(
@@ -79,7 +80,8 @@ pub(crate) fn all_work<N: Starts + Send + Sync, R: Threads + Wait + Sync, T: Gat
 )
     requires plan { IsPlanOf N.starts plan.now.items }
     requires ready { (i : ℕ) (d : Worker) → i < length workers.old → IsReady N.starts N.board (slice_index_or workers.old i d) }
-    requires table { resources.now.table.now ≡ N.table }
+    requires table { resources.now.table.now ≡ N.shared.table }
+    requires wires { resources.now.wires.now ≡ N.shared.wires }
     ensures each { (i : ℕ) (d : Worker) → i < length workers.old → Works plan.now.items (slice_index_or workers.old i d) (slice_index_or workers.new i d) }
     ensures all { length workers.new ≡ length workers.old }
 {
@@ -88,7 +90,7 @@ pub(crate) fn all_work<N: Starts + Send + Sync, R: Threads + Wait + Sync, T: Gat
         workers,
         WORKERS,
         &|_, worker: &mut Worker|
-            requires { IsPlanOf N.starts plan.now.items × IsReady N.starts N.board worker.now × (resources.now.table.now ≡ N.table) }
+            requires { IsPlanOf N.starts plan.now.items × IsReady N.starts N.board worker.now × (resources.now.table.now ≡ N.shared.table) × (resources.now.wires.now ≡ N.shared.wires) }
             ensures { Works plan.entry.now.items worker.entry.now worker.exit.now }
         { work(rt, alloc, cells, resources, plan, gate, worker) },
     );

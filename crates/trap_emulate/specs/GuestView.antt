@@ -26,8 +26,9 @@ pub record Runs (vcpus : List Vcpu) (v : ℕ) : Type 0 where
 abbrev pub ArmedWithin : ℕ → DevicePage → Type 0
 ArmedWithin pages page = (q : ℕ) → page.armed ≡ Some q → q < pages
 
--- a step takes room for one byte of the console at most, and none for packets; and it arms no page that isn't there
+-- a step takes room for one byte of the console at most, and none for packets; it sends nothing, and arms no page that isn't there
 pub record Spends (pages : ℕ) (old new : DevsView) : Type 0 where
   pub print_room : old.print_room ≤ new.print_room + 1
   pub send_room : new.send_room ≡ old.send_room
+  pub sent : new.state.page.sent ≡ old.state.page.sent
   pub armed : ArmedWithin pages old.state.page → ArmedWithin pages new.state.page

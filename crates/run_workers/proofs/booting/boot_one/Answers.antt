@@ -7,7 +7,7 @@ use Rattle.run_workers.proofs.WholeLemmas.{get-index, get-there, all-get}
 use Rattle.node_frames.specs.Layout.{layout_of}
 use Rattle.boot_frames.specs.Chain.{home_of}
 use Rattle.boot_frames.specs.Needs.{need_of}
-use Rattle.run_workers.proofs.BootLemmas.{may-start, started}
+use Rattle.run_workers.proofs.BootLemmas.{may-start, started, wired}
 use Rattle.run_workers.proofs.LotLemmas.{holds-for, is-around, fits-around}
 use Rattle.run_workers.proofs.TopLemmas.{on-ok}
 use Rattle.run_workers.proofs.booting.boot_one.Goals as goal
@@ -23,6 +23,10 @@ boot-requires-clause-may c =
     let guest : IsGuest machine.shape.nodes spec = all-get (IsGuest machine.shape.nodes) machine.guests c.args.number spec c.requires.described.guests at in
     let backed : length c.args.lot.frames ≡ length c.args.source.image.pages = (c.requires.lot spec at).1.pages.count ∙ sym (c.requires.source spec at).pages in
     may-start machine c.args.plan.now _ c.args.source spec spec.vcpus c.args.lot.frames c.requires.described c.requires.built c.in_ok-site_of.ensures guest (c.requires.source spec at) refl refl backed
+
+-- its ends of the wires
+pub boot-requires-clause-wired : goal.boot-requires-clause-wired
+boot-requires-clause-wired c = wired c.args.machine.now _ c.args.wires.now c.args.passes c.args.number c.in_ok-site_of.ensures refl c.requires.there c.requires.wires c.requires.passes
 
 -- the lot's holder is the guest's
 pub boot-requires-clause-holds : goal.boot-requires-clause-holds
@@ -64,4 +68,4 @@ returns c =
     let lot = c.requires.lot spec at in
     let backed : length c.args.lot.frames ≡ length c.args.source.image.pages = lot.1.pages.count ∙ sym (c.requires.source spec at).pages in
     let fits = fits-around c.args.table.now machine plan _ spec c.requires.described c.requires.frames c.requires.lends c.in_ok-site_of.ensures refl in
-    on-ok _ _ c.boot.result (λ guest starts. started machine plan _ c.args.source spec c.args.lot.frames input c.args.seat c.args.table.now c.args.lot.holder.table c.args.number guest c.in_ok-site_of.ensures refl refl at at-input backed c.requires.seat.number_is starts lot.1.made fits) c.boot.ensures
+    on-ok _ _ c.boot.result (λ guest starts. started machine plan _ c.args.source spec c.args.lot.frames input c.args.seat (record { table = c.args.table.now; wires = c.args.wires.now }) c.args.passes c.args.lot.holder.table c.args.number guest c.in_ok-site_of.ensures refl refl at at-input backed c.requires.seat.number_is starts lot.1.made fits c.requires.passes.guest_is) c.boot.ensures

@@ -1,7 +1,8 @@
 use Rattle.std.proofs.Common.{rules, ◌≡◌, ◌<◌, ◌++◌, map, Some, sym, subst, refl, ◌∙◌, ap, length, List, All, arith}
 use Rattle.std.specs.Prelude.{slice_index_or, slice_get}
 use Rattle.std.proofs.lemmas.List.{length-map, with_items_is}
-use Rattle.frame_words.specs.Holders.{MadeTable}
+use Rattle.guest_core.specs.GuestView.{Shared}
+use Rattle.wire_queue.specs.Between.{Made}
 use Rattle.shootdown.specs.Notes.{Token, Seat, AreInStep}
 use Rattle.isolation_law.specs.Start.{Boot}
 use Rattle.machine_desc.specs.declared.plan.Item.{Item}
@@ -12,11 +13,11 @@ use Rattle.run_workers.specs.Working.{ItemFits, IsOn}
 use Rattle.run_workers.specs.Workers.{IsReady, Works}
 use Rattle.run_workers.specs.Parts.{token_of, slices_of, slices_in}
 use Rattle.run_workers.specs.Booting.{start_of, IsFresh}
-use Rattle.run_workers.specs.Ending.{AllLeft}
+use Rattle.run_workers.specs.Ending.{AllLeft, AllTold}
 use Rattle.run_workers.specs.Named.{board_of_tokens}
 use Rattle.run_workers.specs.declared.workers.Worker.{Worker}
 use Rattle.run_workers.proofs.WholeLemmas.{Leftover, is-due, state-count}
-use Rattle.run_workers.proofs.RunLemmas.{all-guests, ready, Done, done-at, all-places, all-processors, seat-boards, token-boards, all-records}
+use Rattle.run_workers.proofs.RunLemmas.{all-passes, starts-numbers, all-guests, ready, Done, done-at, all-places, all-processors, seat-boards, token-boards, all-records}
 use Rattle.run_workers.specs.PlanDue.{IsDue}
 use Rattle.run_workers.specs.Dealt.{dealt}
 use Rattle.run_workers.proofs.NoteLists.{Every}
@@ -26,8 +27,8 @@ use Rattle.run_workers.proofs.running.run_named.Goals as goal
 pub new-cells-requires : goal.new-cells-requires
 new-cells-requires g c =
     let board = board_of_tokens c.args.tokens in
-    subst (λ b. GuestsFrom g.N.Starts.starts b g.N.Starts.table 0 c.args.guests.items) (sym c.requires.board)
-    (subst (λ (s : List Boot). GuestsFrom s board g.N.Starts.table 0 c.args.guests.items) (sym c.requires.starts) (subst (λ (t : MadeTable). GuestsFrom (map start_of c.args.guests.items) board t 0 c.args.guests.items) (sym c.requires.table) (all-guests board c.args.table.now c.args.guests.items c.requires.may.guests_are)))
+    subst (λ b. GuestsFrom g.N.Starts.starts b g.N.Starts.shared 0 c.args.guests.items) (sym c.requires.board)
+    (subst (λ (s : List Boot). GuestsFrom s board g.N.Starts.shared 0 c.args.guests.items) (sym c.requires.starts) (subst (λ (t : Shared). GuestsFrom (map start_of c.args.guests.items) board t 0 c.args.guests.items) (sym c.requires.shared) (all-guests board (record { table = c.args.table.now; wires = c.args.wires.now }) c.args.guests.items c.requires.may.guests_are)))
 
 pub all_work-requires-clause-ready : goal.all_work-requires-clause-ready
 all_work-requires-clause-ready g c κs within = λ i d l.
@@ -50,7 +51,7 @@ close_notes-requires g c =
     let tokens-are : c.in_ok-tokens.tokens ≡ map token_of now = c.in_ok-tokens.ensures.tokens ∙ ap (map token_of) all in
     let made : map Some (slices_in c.in_ok-tokens.queues.items) ≡ map slices_of now = c.in_ok-tokens.ensures.slices ∙ ap (map slices_of) all in
     let done = done-at board c.args.plan.now.items c.args.tokens was now (slices_in c.in_ok-tokens.queues.items) may.tokens_are tokens c.all_work.ensures.all c.all_work.ensures.each made in
-    let left : AllLeft g.N.Starts.starts g.N.Starts.board c.in_ok-guests.guests c.in_ok-guests.seats = c.in_ok-guests.ensures.left in
+    let left : AllLeft g.N.Starts.starts g.N.Starts.board g.N.Starts.shared.wires c.in_ok-guests.guests c.in_ok-guests.passes c.in_ok-guests.seats = c.in_ok-guests.ensures.left in
     record {
       board = board;
       of_tokens = subst (λ (l : List Token). All (λ (t : Token). t.board ≡ board) l) (sym tokens-are) (token-boards board (planned 0 c.args.plan.now.items) (slices_in c.in_ok-tokens.queues.items) (map token_of now) done);
@@ -80,6 +81,7 @@ returns-clause-run g c =
     let items = c.args.plan.now.items in
     let queues = slices_in c.in_ok-tokens.queues.items in
     let lefts = c.in_ok-guests.guests in
+    let lists = c.in_ok-guests.passes in
     let seats = c.in_ok-guests.seats in
     let tokens : map token_of was ≡ c.args.tokens = search rules in
     let same : length now ≡ c.in_ok-workers.workers.len = c.all_work.ensures.all ∙ c.deref_mut.ensures.len in
@@ -87,7 +89,7 @@ returns-clause-run g c =
     let tokens-are : c.in_ok-tokens.tokens ≡ map token_of now = c.in_ok-tokens.ensures.tokens ∙ ap (map token_of) all in
     let made : map Some queues ≡ map slices_of now = c.in_ok-tokens.ensures.slices ∙ ap (map slices_of) all in
     let done = done-at board items c.args.tokens was now queues may.tokens_are tokens c.all_work.ensures.all c.all_work.ensures.each made in
-    let left : AllLeft starts board lefts seats = subst (λ b. AllLeft starts b lefts seats) c.requires.board (subst (λ (s : List Boot). AllLeft s g.N.Starts.board lefts seats) c.requires.starts c.in_ok-guests.ensures.left) in
+    let left : AllLeft starts board g.N.Starts.shared.wires lefts lists seats = subst (λ b. AllLeft starts b g.N.Starts.shared.wires lefts lists seats) c.requires.board (subst (λ (s : List Boot). AllLeft s g.N.Starts.board g.N.Starts.shared.wires lefts lists seats) c.requires.starts c.in_ok-guests.ensures.left) in
     let out = map token_of now in
     let many : length out ≡ length c.args.tokens = length-map now token_of ∙ c.all_work.ensures.all ∙ sym (length-map was token_of) ∙ ap length tokens in
     let states = state-count starts board 0 left.states lefts seats left.each ∙ left.count in
@@ -106,4 +108,18 @@ returns-clause-run g c =
       states = left.states;
       guests = all-records starts board left.states lefts seats left.each left.count;
       due = subst (λ (s : List SliceRecord). IsDue (planned 0 items) left.states lefts s) (sym slices) (is-due starts board (planned 0 items) out queues left.states lefts seats over);
+      told = subst (λ (m : Made). AllTold starts m 0 left.states lefts lists) (ap (λ (x : Shared). x.wires) c.requires.shared) left.told;
+      drained = left.drained;
     }
+
+pub returns-clause-passes : goal.returns-clause-passes
+returns-clause-passes g c =
+    let may = c.requires.may in
+    let guests = c.args.guests.items in
+    let starts = map start_of guests in
+    let wires = c.args.wires.now in
+    let lefts = c.in_ok-guests.guests in
+    let lists = c.in_ok-guests.passes in
+    let seats = c.in_ok-guests.seats in
+    let left : AllLeft starts g.N.Starts.board wires lefts lists seats = subst (λ (m : Made). AllLeft starts g.N.Starts.board m lefts lists seats) (ap (λ (x : Shared). x.wires) c.requires.shared) (subst (λ (s : List Boot). AllLeft s g.N.Starts.board g.N.Starts.shared.wires lefts lists seats) c.requires.starts c.in_ok-guests.ensures.left) in
+    all-passes starts wires left.states lefts lists left.told (left.count ∙ length-map guests start_of ∙ sym may.wires) (starts-numbers guests may.numbers)

@@ -18,7 +18,7 @@ make_turns-burst-requires-after_bounds g c κs within =
       omega arith,
       (
         subst (Fits g.N.Starts.starts g.N.Starts.board) (sym load) (record { board_is = c.requires.token.board_is; is_processor = c.requires.token.is_processor }),
-        (λ e. (let both : Some c.args.job.vcpu.0 ≡ None = sym is ∙ e in absurd cc), c.requires.table),
+        (λ e. (let both : Some c.args.job.vcpu.0 ≡ None = sym is ∙ e in absurd cc), (c.requires.table, c.requires.wires)),
       ),
     )
 

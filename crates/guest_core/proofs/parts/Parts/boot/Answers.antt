@@ -1,5 +1,5 @@
 -- The parts are those of the law's start.
-use Rattle.std.proofs.Common.{◌≡◌, ℕ, ◌<◌, List, [], None, Some, length, refl, sym, ap, ◌∙◌, subst, arith}
+use Rattle.std.proofs.Common.{◌≡◌, ℕ, ◌<◌, ◌≤◌, List, [], None, Some, length, refl, sym, ap, ◌∙◌, subst, arith}
 use Rattle.std.proofs.lemmas.List.{length-map}
 use Rattle.base_words.specs.declared.events.End.{End}
 use Rattle.base_words.specs.declared.ids.CellId.{CellId}
@@ -16,6 +16,11 @@ use Rattle.guest_core.proofs.BootLemmas.{same-boot, may-boot, no-loads, kept-sta
 use Rattle.guest_core.proofs.EnterProofs.{of-these}
 use Rattle.guest_core.proofs.HoldingLemmas.{holding-start}
 use Rattle.guest_core.proofs.KeptProofs.{IsOff}
+use Rattle.wire_queue.specs.Between.{Made}
+use Rattle.wire_queue.specs.declared.lists.PassList.{PassList}
+use Rattle.base_words.specs.declared.events.Event.{Event}
+use Rattle.guest_core.specs.Wiring.{IsWired, Posted}
+use Rattle.guest_core.proofs.WiringProofs.{posted-start}
 use Rattle.guest_core.proofs.parts.Parts.boot.Goals as goal
 
 pub boot-requires : goal.boot-requires
@@ -55,6 +60,9 @@ returns-clause-kept c =
       at_home = subst (λ (x : Boot). x.around.home < length x.around.nodes) (sym start) (subst (λ (n : ℕ). c.args.around.home.0 < n) (sym (length-map c.args.around.site.shape.cells (λ (x : CellId). x.0) ∙ c.args.around.site.shape.has_cells)) c.requires.may.at_home);
       no_policy = subst (λ (x : Boot). IsOff x.around.policy) (sym start) c.requires.may.no_policy;
       unloads = omega (arith, none);
+      few_guests = subst (λ (x : Boot). length x.around.homes ≤ 8) (sym start) (subst (λ (n : ℕ). n ≤ 8) (sym (length-map c.args.around.site.homes (λ (x : CellId). x.0))) c.requires.may.few_guests);
+      wired = subst (λ (x : Boot). IsWired c.of.result.wires.value c.of.result.passes x.around) (sym start) (subst (λ (l : PassList). IsWired c.of.result.wires.value l (from c).around) (sym c.of.ensures.passes) (subst (λ (m : Made). IsWired m c.args.passes (from c).around) (sym c.of.ensures.wires) c.requires.wired));
+      posted = subst (λ (s : GuestState). Posted s c.new.result.entries c.of.result.passes) (sym state) (subst (λ (j : List Event). Posted (started b) j c.of.result.passes) (sym (ap (λ x. x.entries) c.new.ensures)) (subst (Posted (started b) []) (sym c.of.ensures.passes) (posted-start b c.args.passes c.requires.unused)));
     }
   where
     not-ended : (end : End) → None ≡ Some end → ⊥
@@ -69,4 +77,6 @@ returns-clause-start c = record {
   state_is = state-is c;
   no_entries = ap (λ x. x.entries) c.new.ensures;
   no_notes = c.requires.no_notes;
+  wires_are = c.of.ensures.wires;
+  passes_are = c.of.ensures.passes;
 }

@@ -1,5 +1,5 @@
 -- The end is its row, and the guest is kept.
-use Rattle.std.proofs.Common.{◌≡◌, Some, None, List, refl, sym, ap, ◌∙◌, subst, arith}
+use Rattle.std.proofs.Common.{◌≡◌, Some, None, List, [], ◌∷◌, refl, sym, ap, ◌∙◌, subst, arith}
 use Rattle.base_words.specs.declared.events.Event.{Event}
 use Rattle.base_words.specs.declared.events.Event.TheVariants.{End as Ending}
 use Rattle.base_words.specs.declared.events.End.{End}
@@ -10,6 +10,8 @@ use Rattle.guest_core.specs.Kept.{Kept}
 use Rattle.guest_core.proofs.CountLemmas.{count-same}
 use Rattle.guest_core.proofs.KeptProofs.{Laws, kept-none, end-leaves}
 use Rattle.guest_core.proofs.RoomLemmas.{two-entries}
+use Rattle.guest_core.specs.Wiring.{Posted}
+use Rattle.guest_core.proofs.WiringProofs.{TakeLaws, posted-same, quiet-one, quiet-end}
 use Rattle.guest_core.proofs.parts.Parts.end_budget.Goals as goal
 
 pub returns-clause-kept : goal.returns-clause-kept
@@ -19,6 +21,8 @@ returns-clause-kept c =
     let t = state_of c.close.new.course in
     let k = c.requires.kept in
     let w : Laws = record { halts = c.halts_stay.ensures.row; count = c.halts_stay.ensures.count; processors = c.halts_stay.ensures.processors; loaded = c.halts_stay.ensures.loaded; grows = c.run_grows.ensures.row; around = c.row_keeps.ensures.around } in
+    let row = c.close.ensures.ends in
+    let v' : TakeLaws = record { same = c.takes.ensures.same; tells_same = c.takes.ensures.tells_same; comes = c.takes.ensures.comes; received = c.takes.ensures.received; tells = c.takes.ensures.tells } in
     let leaves = end-leaves s t Budget c.requires.not_ended c.close.ensures.ends refl k.kept.nothing_due in
     let kept = kept-none w old.start s t old.journal.entries old.seat.notes (Ending Budget) k.kept leaves refl (λ r. refl) in
     let same = count-same s.processors t.processors (w.processors s t (Ending Budget) leaves.row) (λ r. w.loaded s t (Ending Budget) r leaves.row) in
@@ -33,6 +37,10 @@ returns-clause-kept c =
       at_home = k.at_home;
       no_policy = k.no_policy;
       unloads = omega (arith, same, room, c.push.ensures.room);
+      few_guests = k.few_guests;
+      wired = k.wired;
+      posted = subst (λ (j : List Event). Posted t j old.wiring.passes) (sym c.push.ensures.entries) (posted-same v' s t old.journal.entries (Ending Budget ∷ []) old.wiring.passes k.posted (quiet-end s t Budget row)
+          (ap (λ (x : GuestState). x.devices.sent) row.after) (ap (λ (x : GuestState). x.sent_from) row.after) (w.around s t (Ending Budget) row) (quiet-one s (Ending Budget) refl (λ x. tt)));
     }
   where
     no : (e : End) → Some e ≡ None → ⊥

@@ -12,6 +12,8 @@ use Rattle.guest_core.proofs.CountLemmas.{swapped}
 use Rattle.guest_core.proofs.HoldingLemmas.{frames-stay}
 use Rattle.guest_core.proofs.KeptProofs.{Laws, kept-one, kept-answer, load-leaves, one-more}
 use Rattle.guest_core.proofs.RoomLemmas.{two-entries}
+use Rattle.guest_core.specs.Wiring.{Posted}
+use Rattle.guest_core.proofs.WiringProofs.{TakeLaws, posted-same, quiet-one, quiet-load}
 use Rattle.guest_core.proofs.parts.Parts.load_vcpu.Goals as goal
 
 pub returns-in-Some-clause-kept : goal.returns-in-Some-clause-kept
@@ -31,6 +33,9 @@ returns-in-Some-clause-kept c =
       at_home = k.at_home;
       no_policy = k.no_policy;
       unloads = k.unloads;
+      few_guests = k.few_guests;
+      wired = k.wired;
+      posted = k.posted;
     }
   where
     never : false ≡ true → ⊥
@@ -47,6 +52,7 @@ returns-clause-kept c =
     let n : SidedNote = sided p.0 (Made (Load p v)) in
     let w : Laws = record { halts = c.halts_stay.ensures.row; count = c.halts_stay.ensures.count; processors = c.halts_stay.ensures.processors; loaded = c.halts_stay.ensures.loaded; grows = c.run_grows.ensures.row; around = c.row_keeps.ensures.around } in
     let row = c.load.ensures.loads in
+    let v' : TakeLaws = record { same = c.takes.ensures.same; tells_same = c.takes.ensures.tells_same; comes = c.takes.ensures.comes; received = c.takes.ensures.received; tells = c.takes.ensures.tells } in
     let kept = kept-one w old.start s t old.journal.entries old.seat.notes (Load p v) n k.kept (load-leaves s t p v row refl k.kept.nothing_due) row.is_processor refl tt (record { steps = λ u e. absurd (never e) }) (λ r. swapped r p.0 (Some v.0) (processor s r).loaded) in
     let more = one-more w s t p v row in
     let room = two-entries _ _ _ c.requires.room in
@@ -60,6 +66,10 @@ returns-clause-kept c =
       at_home = k.at_home;
       no_policy = k.no_policy;
       unloads = omega (arith, more, room, c.push.ensures.room);
+      few_guests = k.few_guests;
+      wired = k.wired;
+      posted = subst (λ (j : List Event). Posted t j old.wiring.passes) (sym c.push.ensures.entries) (posted-same v' s t old.journal.entries (Load p v ∷ []) old.wiring.passes k.posted (quiet-load s t p.0 v.0 row)
+          (ap (λ (x : GuestState). x.devices.sent) row.after) (ap (λ (x : GuestState). x.sent_from) row.after) (w.around s t (Load p v) row) (quiet-one s (Load p v) refl (λ x. tt)));
     }
   where
     never : false ≡ true → ⊥

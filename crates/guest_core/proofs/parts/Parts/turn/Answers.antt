@@ -13,13 +13,14 @@ use Rattle.guest_core.specs.GuestCalls.{Learns, processor_of, loaded_on, Turns, 
 use Rattle.guest_core.specs.GuestView.{guest_of}
 use Rattle.guest_core.proofs.KeptProofs.{kept-answer}
 use Rattle.guest_core.proofs.EnterProofs.{of-these}
+use Rattle.guest_core.proofs.parts.Parts.turn.Given.{Over}
 use Rattle.guest_core.proofs.parts.Parts.turn.Goals as goal
 
 never : false ≡ true → ⊥
 never e = cc
 
 pub returns-in-Some-clause-kept : goal.returns-in-Some-clause-kept
-returns-in-Some-clause-kept c =
+returns-in-Some-clause-kept g c =
     let old = c.args.self.now in
     let s = state_of old.course in
     let k = c.requires.kept in
@@ -35,10 +36,13 @@ returns-in-Some-clause-kept c =
       at_home = k.at_home;
       no_policy = k.no_policy;
       unloads = k.unloads;
+      few_guests = k.few_guests;
+      wired = k.wired;
+      posted = k.posted;
     }
 
 pub returns-then-index-clause-kept : goal.returns-then-index-clause-kept
-returns-then-index-clause-kept c =
+returns-then-index-clause-kept g c =
     let old = c.args.self.now in
     let s = state_of old.course in
     let k = c.requires.kept in
@@ -56,14 +60,17 @@ returns-then-index-clause-kept c =
       at_home = k.at_home;
       no_policy = k.no_policy;
       unloads = k.unloads;
+      few_guests = k.few_guests;
+      wired = k.wired;
+      posted = k.posted;
     }
 
 -- it is the virtual processor that is loaded
-loaded-is : (c : goal.After-enter) → c.in-Some-loaded.vcpu ≡ loaded_on (guest_of c.args.self.now) c.args.token.now
-loaded-is c = ap (λ l. record { 0 = unwrap_or l 0 }) (c.in-Some-loaded.ensures ∙ ap (λ (n : ℕ). (processor (state_of c.args.self.now.course) n).loaded) c.number.ensures)
+loaded-is : (g : Over) (c : goal.After-enter g) → c.in-Some-loaded.vcpu ≡ loaded_on (guest_of c.args.self.now) c.args.token.now
+loaded-is g c = ap (λ l. record { 0 = unwrap_or l 0 }) (c.in-Some-loaded.ensures ∙ ap (λ (n : ℕ). (processor (state_of c.args.self.now.course) n).loaded) c.number.ensures)
 
 pub returns-clause-turns : goal.returns-clause-turns
-returns-clause-turns c = subst (λ (v : VcpuId). Turns (guest_of c.args.self.now) (processor_of c.args.token.now) v (guest_of c.enter.new.self) c.enter.result) (loaded-is c) c.enter.ensures.turns
+returns-clause-turns g c = subst (λ (v : VcpuId). Turns (guest_of c.args.self.now) (processor_of c.args.token.now) v (guest_of c.enter.new.self) c.enter.result) (loaded-is g c) c.enter.ensures.turns
 
 pub returns-clause-learns : goal.returns-clause-learns
-returns-clause-learns c = subst (λ (v : VcpuId). Learns (guest_of c.args.self.now) c.args.token.now (told_of_turn (processor_of c.args.token.now) v c.enter.result) (guest_of c.enter.new.self) c.enter.new.token) (loaded-is c) c.enter.ensures.learns
+returns-clause-learns g c = subst (λ (v : VcpuId). Learns (guest_of c.args.self.now) c.args.token.now (told_of_turn (processor_of c.args.token.now) v c.enter.result) (guest_of c.enter.new.self) c.enter.new.token) (loaded-is g c) c.enter.ensures.learns

@@ -12,6 +12,8 @@ use Rattle.guest_core.proofs.CountLemmas.{swapped}
 use Rattle.guest_core.proofs.HoldingLemmas.{frames-stay}
 use Rattle.guest_core.proofs.KeptProofs.{Laws, kept-one, unload-leaves, one-fewer}
 use Rattle.guest_core.proofs.RoomLemmas.{same-room}
+use Rattle.guest_core.specs.Wiring.{Posted}
+use Rattle.guest_core.proofs.WiringProofs.{TakeLaws, posted-same, quiet-one, quiet-unload}
 use Rattle.guest_core.proofs.parts.Parts.unload.Goals as goal
 
 pub push-requires : goal.push-requires
@@ -31,6 +33,8 @@ returns-clause-kept c =
     let p = c.number-processor.result in
     let n : SidedNote = sided p.0 (Made (Unload p)) in
     let w : Laws = record { halts = c.halts_stay.ensures.row; count = c.halts_stay.ensures.count; processors = c.halts_stay.ensures.processors; loaded = c.halts_stay.ensures.loaded; grows = c.run_grows.ensures.row; around = c.row_keeps.ensures.around } in
+    let row = c.unload.ensures.unloads in
+    let v' : TakeLaws = record { same = c.takes.ensures.same; tells_same = c.takes.ensures.tells_same; comes = c.takes.ensures.comes; received = c.takes.ensures.received; tells = c.takes.ensures.tells } in
     let leaves = unload-leaves s t p c.unload.ensures.unloads refl k.kept.nothing_due in
     let there : p.0 < length s.processors = subst (λ (n : ℕ). p.0 < n) (sym k.kept.processors) (rw c.number-processor.ensures c.requires.token.is_processor) in
     let kept = kept-one w old.start s t old.journal.entries old.seat.notes (Unload p) n k.kept leaves there refl tt (record { steps = λ v e. absurd (never e) }) (λ r. swapped r p.0 None (processor s r).loaded) in
@@ -45,6 +49,10 @@ returns-clause-kept c =
       at_home = k.at_home;
       no_policy = k.no_policy;
       unloads = omega (arith, less, room, c.push.ensures.room);
+      few_guests = k.few_guests;
+      wired = k.wired;
+      posted = subst (λ (j : List Event). Posted t j old.wiring.passes) (sym c.push.ensures.entries) (posted-same v' s t old.journal.entries (Unload p ∷ []) old.wiring.passes k.posted (quiet-unload s t p.0 row)
+          (ap (λ (x : GuestState). x.devices.sent) row.after) (ap (λ (x : GuestState). x.sent_from) row.after) (w.around s t (Unload p) row) (quiet-one s (Unload p) refl (λ x. tt)));
     }
   where
     never : false ≡ true → ⊥
@@ -56,4 +64,4 @@ returns-clause-room c =
     let k = c.requires.kept in
     let less = one-fewer w (state_of c.args.self.now.course) (state_of c.unload.new.self) c.number-processor.result c.unload.ensures.unloads (subst (λ (n : ℕ). c.number-processor.result.0 < n) (sym k.kept.processors) (rw c.number-processor.ensures c.requires.token.is_processor)) in
     let c' = c.unload.ensures in
-    rw (c'.print_room, c'.send_room, c'.cells) (same-room _ _ _ _ _ (omega (arith, less, c.push.ensures.room)))
+    rw (c'.print_room, c'.send_room, c'.cells, c'.packets.received) (same-room _ _ _ _ _ (omega (arith, less, c.push.ensures.room)))

@@ -13,7 +13,7 @@ use Rattle.guest_course.proofs.course.Course.boot.Goals as goal
 pub free_places-requires : goal.free_places-requires
 free_places-requires c = frames-fit c.args.around c.args.vcpus c.args.frames c.args.disk c.requires
 
-booted : (c : goal.After-new-4) → Booted (record {
+booted : (c : goal.After-new-6) → Booted (record {
   around = c.args.around;
   vcpus = c.in_ok-vec.field-0;
   devs = c.in_ok-new.field-0;
@@ -24,6 +24,9 @@ booted : (c : goal.After-new-4) → Booted (record {
   counters = c.in_ok-new-2.field-0;
   due = c.in_ok-vec-2.field-0;
   sent_from = c.new-4.result;
+  received = c.new-5.result;
+  discarded = c.new-6.result;
+  hand = Rattle.std.proofs.Common.None;
   ended = Rattle.std.proofs.Common.None;
 }) c.args.around c.args.entry c.args.vcpus c.args.frames c.args.disk c.args.input.now
 booted c = record {
@@ -39,6 +42,9 @@ booted c = record {
   counted = subst (λ n. AreCounters n c.args.around.site.shape.nodes c.in_ok-new-2.field-0) c.len-pages.ensures c.in_ok-new-2.ensures.counters;
   due = c.in_ok-vec-2.ensures.items_if_clones_equal (only-none _ (λ w e. e)) ∙ ap (λ n. replicate n None) c.len-processors.ensures;
   sent_from = c.new-4.ensures.items;
+  received = c.new-5.ensures.items;
+  discarded = c.new-6.ensures.items;
+  hand = refl;
   ended = refl;
 }
 

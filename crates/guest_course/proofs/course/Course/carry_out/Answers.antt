@@ -20,6 +20,7 @@ use Rattle.guest_course.proofs.VecLemmas.{items-with}
 use Rattle.guest_course.proofs.TaskLemmas.{pages-saved, done-shown}
 use Rattle.guest_course.proofs.LeaveProofs.{Left, leaves-row, left-remade, left-stays}
 use Rattle.guest_course.proofs.EmulateProofs.{sound-remade}
+use Rattle.guest_course.proofs.PostingProofs.{sends-row}
 use Rattle.guest_course.proofs.course.Course.carry_out.Goals as goal
 
 new : goal.After-self-2-1 → Course
@@ -90,3 +91,7 @@ returns-clause-sound c =
     sound-remade old (new c) sound on (left-remade old (new c) c.args.vcpu.0 c.in_ok-task.task sound on (left c))
     (λ r u is. sound.loaded r u (sym (stays.loaded r) ∙ is))
     (c.row_keeps.ensures.coherent (state_of old) (state_of (new c)) (Emulate processor c.args.vcpu) going.coherent (inl row) (stays.end ∙ on))
+
+pub returns-clause-sends : goal.returns-clause-sends
+unfolding new
+returns-clause-sends c = sends-row c.sends.ensures.more c.args.self.now (new c) c.args.vcpu.0 c.args.act c.in_ok-task.task (left c) c.in_ok-task.ensures.task c.requires.sound.sized.cells

@@ -15,7 +15,7 @@ turn-requires-after_bounds g c κs within =
         subst (Fits g.N.Starts.starts g.N.Starts.board) (sym i.0.token) (record { board_is = c.requires.token.board_is; is_processor = c.requires.token.is_processor }),
         (
           λ e. c.requires.loaded (sym (shown-paused c.args.token.now g.row.G c.loop-turn.burst c.loop-turn.token i.0 paused) ∙ e),
-          c.requires.table,
+          (c.requires.table, c.requires.wires),
         ),
       ),
     )

@@ -1,0 +1,43 @@
+-- The packet in hand is received, and the guest is kept.
+use Rattle.std.specs.Vec.{vec_len}
+use Rattle.std.proofs.Common.{rules, ◌≡◌, inl, List, [], ◌∷◌, ◌++◌, length, refl, sym, ap, ◌∙◌, subst, arith}
+use Rattle.base_words.specs.declared.events.Event.{Event}
+use Rattle.base_words.specs.declared.events.Event.TheVariants.{PacketIn}
+use Rattle.isolation_law.specs.GuestState.{GuestState}
+use Rattle.guest_course.specs.CourseView.{state_of}
+use Rattle.guest_core.specs.Kept.{Kept}
+use Rattle.guest_core.specs.Wiring.{Posted}
+use Rattle.guest_core.proofs.HoldingLemmas.{frames-stay}
+use Rattle.guest_core.proofs.KeptProofs.{Laws, kept-none, receive-leaves, as-many}
+use Rattle.guest_core.proofs.RoomLemmas.{two-entries}
+use Rattle.guest_core.proofs.WiringProofs.{TakeLaws, posted-received}
+use Rattle.guest_core.proofs.parts.Parts.take_in.Goals as goal
+
+pub returns-clause-kept : goal.returns-clause-kept
+returns-clause-kept c =
+    let old = c.args.self.now in
+    let k = c.requires.kept in
+    let s = state_of old.course in
+    let t = state_of c.receive.new.self in
+    let place = length old.course.received.items in
+    let row = c.in_ok-receive.ensures.receives in
+    let w : Laws = record { halts = c.halts_stay.ensures.row; count = c.halts_stay.ensures.count; processors = c.halts_stay.ensures.processors; loaded = c.halts_stay.ensures.loaded; grows = c.run_grows.ensures.row; around = c.row_keeps.ensures.around } in
+    let v : TakeLaws = record { same = c.takes.ensures.same; tells_same = c.takes.ensures.tells_same; comes = c.takes.ensures.comes; received = c.takes.ensures.received; tells = c.takes.ensures.tells } in
+    let kept = kept-none w old.start s t old.journal.entries old.seat.notes (PacketIn place) k.kept (receive-leaves s t place row k.kept.nothing_due) refl (λ r. refl) in
+    let long : vec_len old.course.received ≡ place = search rules in
+    let entries = c.push.ensures.entries ∙ ap (λ n. old.journal.entries ++ PacketIn n ∷ []) (c.len-place.ensures ∙ long) in
+    let loads = as-many w s t (PacketIn place) (inl row) (λ r. refl) in
+    let room = two-entries _ _ _ c.requires.room in
+    record {
+      sound = c.receive.ensures.sound;
+      seat = k.seat;
+      kept = subst (λ (j : List Event). Kept old.start t j old.seat.notes) (sym entries) kept;
+      goes_on = λ on. c.receive.ensures.goes_on;
+      frames = frames-stay s t _ (c.exchanges.ensures.receives s t place row) (w.around s t (PacketIn place) (inl row)) (ap (λ (x : GuestState). x.end) row.after) k.frames;
+      at_home = k.at_home;
+      no_policy = k.no_policy;
+      unloads = omega (arith, loads, room, c.push.ensures.room);
+      few_guests = k.few_guests;
+      wired = k.wired;
+      posted = subst (λ (j : List Event). Posted t j old.wiring.passes) (sym entries) (posted-received v s t old.journal.entries place old.wiring.passes k.posted row);
+    }

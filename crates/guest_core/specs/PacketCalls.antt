@@ -1,0 +1,85 @@
+-- Packets that come to a guest, by what its calls answer.
+use Rattle.std.specs.Prelude.{◌≡◌, ◌≢◌, ℕ, ⊤, [], ◌∷◌, ◌++◌, length, None, Result, Ok, Err}
+use Rattle.std.specs.declared.alloc.AllocError.{AllocError}
+use Rattle.base_words.specs.declared.events.Event.TheVariants.{PacketIn}
+use Rattle.isolation_law.specs.PacketRows.{Receives}
+use Rattle.isolation_law.specs.Run.{Silent}
+use Rattle.wire_queue.specs.ListSteps.{SameEnds}
+use Rattle.wire_queue.specs.PassLists.{sending_to}
+use Rattle.wire_queue.specs.declared.lists.PassList.{PassList}
+use Rattle.guest_core.specs.GuestView.{Monitored, IsSameGuest}
+use Rattle.guest_core.specs.GuestCalls.{Makes, Stays}
+use Rattle.guest_core.specs.declared.answers.Packeted.{Packeted}
+use Rattle.guest_core.specs.declared.answers.Packeted.TheVariants as packeted
+
+-- a guest that hasn't ended waits for a packet
+pub record IsArmed (g : Monitored) : Type 0 where
+  pub not_ended : g.state.end ≡ None
+  pub armed : g.state.devices.armed ≢ None
+
+-- no note was made, and nothing was taken or given back
+pub record NotesNothing (old new : Monitored) : Type 0 where
+  pub notes : new.notes ≡ old.notes
+  pub view : new.view ≡ old.view
+
+-- a packet came to hand, or nothing changed; either makes no entry
+pub record Fetches (old new : Monitored) : Type 0 where
+  pub quiet : NotesNothing old new
+  pub journal : new.journal ≡ old.journal
+  pub silent : Silent old.state new.state
+
+-- the packet in hand was received; the page isn't armed any more
+pub record ReceivesNext (old new : Monitored) : Type 0 where
+  pub quiet : NotesNothing old new
+  pub journal : new.journal ≡ old.journal ++ PacketIn (length old.state.received) ∷ []
+  pub row : Receives old.state (length old.state.received) new.state
+  pub disarmed : new.state.devices.armed ≡ None
+
+-- a packet was received, which was in hand or came to hand
+pub record Delivers (old new : Monitored) : Type 0 where
+  pub quiet : NotesNothing old new
+  pub makes : Makes old (PacketIn (length old.state.received) ∷ []) new
+  pub not_ended : new.state.end ≡ None
+  pub disarmed : new.state.devices.armed ≡ None
+
+abbrev pub TakesIn : Monitored → Monitored → Result ⊤ AllocError → Type 0
+TakesIn old new (Ok done) = ReceivesNext old new
+TakesIn old new (Err e) = new ≡ old
+
+-- no wire gave a packet, and none is in hand
+pub record HasNoPacket (old new : Monitored) : Type 0 where
+  pub armed : IsArmed old
+  pub none : old.state.hand ≡ None
+  pub stays : Stays old new
+  pub notes : new.notes ≡ old.notes
+
+pub record WaitsForNone (old new : Monitored) : Type 0 where
+  pub unarmed : IsArmed old → ⊥
+  pub same : new ≡ old
+
+-- where memory is wanting the packet stays in hand
+pub record KeepsInHand (old new : Monitored) : Type 0 where
+  pub armed : IsArmed old
+  pub quiet : NotesNothing old new
+  pub not_ended : new.state.end ≡ None
+  pub makes : Makes old [] new
+  pub in_hand : new.state.hand ≢ None
+
+abbrev pub TakesPacket : Monitored → Monitored → Result Packeted AllocError → Type 0
+TakesPacket old new (Ok packeted.Delivered) = IsArmed old × Delivers old new
+TakesPacket old new (Ok packeted.NoneInHand) = HasNoPacket old new
+TakesPacket old new (Ok packeted.NotArmed) = WaitsForNone old new
+TakesPacket old new (Err e) = KeepsInHand old new
+
+-- nothing has changed, and the ends of the wires tell the same
+pub record KeepsEnds (old new : Monitored) : Type 0 where
+  pub same : IsSameGuest old new
+  pub stays : Stays old new
+  pub notes : new.notes ≡ old.notes
+  pub room : new.room ≡ old.room
+  pub ends : SameEnds old.passes new.passes
+
+-- the ends by which a guest sends tell the same
+pub record SameSends (old new : PassList) : Type 0 where
+  pub guest : new.guest ≡ old.guest
+  pub sends : (to : ℕ) → sending_to new to ≡ sending_to old to

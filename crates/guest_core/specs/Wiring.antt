@@ -1,0 +1,49 @@
+-- A guest's ends of its wires, against what it sent and what it took.
+use Rattle.std.specs.Prelude.{◌≡◌, ◌<◌, ℕ, List, [], length, map, All, Option, Some, None}
+use Rattle.base_words.specs.declared.events.Event.{Event}
+use Rattle.private_machine.specs.Operation.{Packet}
+use Rattle.isolation_law.specs.GuestState.{GuestState}
+use Rattle.isolation_law.specs.Surroundings.{Surroundings}
+use Rattle.isolation_law.specs.WireHistory.{sent_to, AreAccepted, taken_from, Tells}
+use Rattle.wire_queue.specs.Between.{Made, guest_count}
+use Rattle.wire_queue.specs.Ends.{Sending, Taking}
+use Rattle.wire_queue.specs.ListSteps.{SameEnds, SendsTo, TakesFrom}
+use Rattle.wire_queue.specs.Packets.{Packet as OnWire}
+use Rattle.wire_queue.specs.PassLists.{IsListOf, JoinsAll, sending_to, taking_from}
+use Rattle.wire_queue.specs.declared.lists.PassList.{PassList}
+use Rattle.wire_queue.specs.declared.packet.WirePacket.{WirePacket}
+use Rattle.wire_queue.specs.declared.wires.Sent.{Sent}
+use Rattle.guest_course.specs.declared.posting.Outgoing.{Outgoing}
+
+-- a packet of a wire, as a guest sees it
+abbrev pub shown : OnWire → Packet
+shown packet = record { from = packet.from; cell = packet.cell; bytes = packet.bytes }
+
+-- the guest has its end of each of these wires, and there is one to each other guest and one from it
+pub record IsWired (wires : Made) (passes : PassList) (w : Surroundings) : Type 0 where
+  pub list : IsListOf wires passes
+  pub joins : JoinsAll wires
+  pub guests : guest_count wires ≡ length w.homes
+  pub number : passes.guest.0 ≡ w.guest
+  pub is_guest : passes.guest.0 < guest_count wires
+
+-- what was taken from an end, and nothing where there is no wire
+abbrev pub taken_at : Option Taking → List OnWire
+taken_at None = []
+taken_at (Some end) = end.taken
+
+-- Its wires accepted some of what it sent to each guest; and what it took from each wire is all that came from that guest.
+pub record Posted (s : GuestState) (journal : List Event) (passes : PassList) : Type 0 where
+  pub tells : All (Tells s) journal
+  pub sent : (to : ℕ) (end : Sending) → sending_to passes to ≡ Some end → AreAccepted 0 (sent_to s to) (map shown end.accepted)
+  pub taken : (from : ℕ) → map shown (taken_at (taking_from passes from)) ≡ taken_from journal s from
+
+-- what goes out was put on its wire, or comes back
+abbrev pub SentOn : PassList → Option Outgoing → PassList → Type 0
+SentOn old None new = SameEnds old new
+SentOn old (Some out) new = (answer : Sent) × SendsTo old out.to.0 out.packet answer new
+
+-- a packet was taken from one of the wires, or from none
+abbrev pub TakenOn : PassList → Option WirePacket → PassList → Type 0
+TakenOn old None new = SameEnds old new
+TakenOn old (Some packet) new = (from : ℕ) × TakesFrom old from (Some packet) new

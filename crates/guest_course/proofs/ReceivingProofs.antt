@@ -1,0 +1,122 @@
+-- A packet that is copied into the page that is armed is its row, and keeps what holds of a guest.
+use Rattle.std.proofs.Common.{◌≡◌, ℕ, zero, suc, ◌<◌, ◌&&◌, ◌++◌, ◌∷◌, [], Bool, true, false, List, Option, Some, None, length, map, option_map, replicate, get_or, refl, sym, ap, ◌∙◌, subst, length-set}
+use Rattle.std.proofs.lemmas.List.{length-map, map-append}
+use Rattle.private_machine.specs.declared.vcpu.Vcpu.{Vcpu}
+use Rattle.private_machine.specs.Vcpu.{no_vcpu, with_line_on}
+use Rattle.private_machine.specs.Backing.{Page, page_at, with_first}
+use Rattle.private_machine.specs.DevicePage.{DevicePage}
+use Rattle.private_machine.specs.DeviceRegisters.{packet_noted}
+use Rattle.private_machine.specs.Links.{unlinked_page}
+use Rattle.private_machine.specs.Operation.{Packet}
+use Rattle.private_machine.specs.Packet.{came_into, own_packet}
+use Rattle.private_machine.specs.Signals.{changed}
+use Rattle.guest_devs.specs.DeviceState.{DeviceState}
+use Rattle.guest_devs.specs.Shown.{Agree}
+use Rattle.pmap_table.specs.PageMap.{PageMap, with_page}
+use Rattle.isolation_law.specs.GuestState.{GuestState, processor}
+use Rattle.isolation_law.specs.Content.{content}
+use Rattle.isolation_law.specs.PacketRows.{Receives, with_received}
+use Rattle.isolation_law.specs.Phases.{GoesOn, all_halted}
+use Rattle.isolation_law.specs.Start.{no_cells}
+use Rattle.guest_course.specs.declared.course.Course.{Course}
+use Rattle.guest_course.specs.declared.got.GotPacket.{GotPacket}
+use Rattle.guest_course.specs.CourseView.{state_of, hand_of, got_of}
+use Rattle.guest_course.specs.CourseRules.{IsSound}
+use Rattle.guest_course.specs.EmulateCalls.{StaysLoaded}
+use Rattle.guest_course.proofs.CommandRows.{plain-needs}
+use Rattle.guest_course.proofs.EmulateProofs.{Remade}
+use Rattle.guest_course.proofs.PlainLemmas.{plain-set}
+use Rattle.guest_course.proofs.StepProofs.{goes-on}
+
+-- what the parts of a guest become by a packet that comes into a page
+pub record Received (c d : Course) (q : ℕ) (x : GotPacket) : Type 0 where
+  pub same : d ≡ record c { vcpus = d.vcpus; devs = d.devs; pmap = d.pmap; received = d.received; hand = None }
+  pub vcpus : d.vcpus.items ≡ changed 0 (with_line_on 3 true) (map (unlinked_page q) c.vcpus.items)
+  pub devs : d.devs.state ≡ record c.devs.state { page = packet_noted x.from.0 (length x.bytes) c.devs.state.page; packet = true }
+  pub pmap : d.pmap ≡ with_page c.pmap q (with_first x.bytes (page_at c.pmap.pages q))
+  pub received : d.received.items ≡ c.received.items ++ x ∷ []
+  pub agree : Agree d.devs.state d.vcpus.items
+
+-- no cell is dead
+none-dead : (k : ℕ) → get_or no_cells k false ≡ false
+none-dead zero = refl
+none-dead (suc zero) = refl
+none-dead (suc (suc zero)) = refl
+none-dead (suc (suc (suc zero))) = refl
+none-dead (suc (suc (suc (suc k)))) = refl
+
+state-received : (c d : Course) (q : ℕ) (x : GotPacket) → (state_of c).devices.armed ≡ Some q → Received c d q x
+    → state_of d ≡ with_received (state_of c) (got_of x) (record (state_of c) { pages = (with_page c.pmap q (with_first x.bytes (page_at c.pmap.pages q))).pages })
+state-received c d q x armed r =
+    let s = state_of c in
+    let m = content s in
+    let here = λ (a : Option ℕ). came_into m x.from.0 x.bytes a in
+    let vcpus = r.vcpus ∙ ap (λ (a : Option ℕ). (here a).vcpus) (sym armed) in
+    let devices = ap (λ (y : DeviceState). y.page) r.devs ∙ ap (λ (a : Option ℕ). (here a).devices) (sym armed) in
+    let long = ap (λ (y : PageMap). length y.pages) r.pmap ∙ length-set c.pmap.pages q (with_first x.bytes (page_at c.pmap.pages q)) in
+    let received = ap (map got_of) r.received ∙ map-append got_of c.received.items (x ∷ []) in
+    ap state_of r.same ∙ (λ i. record s { vcpus = vcpus i; devices = devices i; pages = (r.pmap i).pages; operations = replicate (long i) None; spares = (r.pmap i).spares; received = received i; hand = None })
+
+pub receives-row : (c d : Course) (q : ℕ) (x : GotPacket) → IsSound c → GoesOn (state_of c) → (state_of c).devices.armed ≡ Some q
+    → (state_of c).hand ≡ Some (got_of x) → Received c d q x → Receives (state_of c) (length c.received.items) (state_of d)
+receives-row c d q x sound on armed hand r =
+    let s = state_of c in
+    let going = sound.going on.not_ended in
+    record {
+      q = q;
+      packet = got_of x;
+      delivered = record { goes_on = on; armed = armed; in_hand = hand; lives = none-dead x.cell.0; next = sym (length-map c.received.items got_of) };
+      shares = false;
+      needs_nothing = plain-needs s q (going.plain q (going.coherent.armed_page q armed));
+      after = state-received c d q x armed r;
+    }
+
+changed-length : (f : Vcpu → Vcpu) (v : ℕ) (cs : List Vcpu) → length (changed v f cs) ≡ length cs
+changed-length f v cs = length-set cs v (f (get_or cs v no_vcpu))
+
+pub received-remade : (c d : Course) (q : ℕ) (x : GotPacket) → IsSound c → c.ended ≡ None → Received c d q x → Remade c d
+received-remade c d q x sound on r =
+    let places : d.places ≡ c.places = ap (λ (y : Course). y.places) r.same in
+    let new = with_first x.bytes (page_at c.pmap.pages q) in
+    let long = ap (λ (y : PageMap). length y.pages) r.pmap ∙ length-set c.pmap.pages q new in
+    let vcpus = ap length r.vcpus ∙ changed-length (with_line_on 3 true) 0 (map (unlinked_page q) c.vcpus.items) ∙ length-map c.vcpus.items (unlinked_page q) in
+    record {
+      around = ap (λ (y : Course). y.around) r.same;
+      counters = ap (λ (y : Course). y.counters) r.same;
+      ended = ap (λ (y : Course). y.ended) r.same;
+      in_hand = rw (ap (λ (y : Course). y.hand) r.same) tt;
+      cells = ap (λ (y : Course). length y.sent_from.items) r.same ∙ sound.sized.cells ∙ ap (λ (y : DeviceState). length y.page.sent) (sym r.devs);
+      vcpus = vcpus;
+      fits = record {
+        of_pages = ap (λ (y : DeviceState). y.pages) r.devs ∙ (sound.going on).pages ∙ sym long;
+        transfers = ap (λ (y : DeviceState). length y.page.transfers) r.devs ∙ sound.sized.transfers ∙ sym vcpus;
+        agree = r.agree;
+      };
+      seconds = ap (λ (y : Course). length y.seconds.items) r.same;
+      places = ap (λ (y : Course). length y.places.items) r.same;
+      due = ap (λ (y : Course). length y.due.items) r.same;
+      plain = record {
+        long = long;
+        plain = λ all. rw r.pmap (plain-set c.pmap.pages q new all (λ lt. let old = all q lt in record { own = old.own; single = old.single; rests = old.rests }));
+      };
+      stands = rw places sound.places;
+    }
+
+pub received-stays : (c d : Course) (q : ℕ) (x : GotPacket) → Received c d q x → StaysLoaded (state_of c) (state_of d)
+received-stays c d q x r = record {
+  loaded = λ p. ap (λ (y : Course). (processor (state_of y) p).loaded) r.same;
+  end = ap (λ (y : Course). y.ended) r.same;
+}
+
+-- nobody halts by it
+halted-unlinked : (q : ℕ) (cs : List Vcpu) → all_halted (map (unlinked_page q) cs) ≡ all_halted cs
+halted-unlinked q [] = refl
+halted-unlinked q (c ∷ cs) = ap (λ (b : Bool). c.halted && b) (halted-unlinked q cs)
+
+halted-lined : (cs : List Vcpu) → all_halted (changed 0 (with_line_on 3 true) cs) ≡ all_halted cs
+halted-lined [] = refl
+halted-lined (c ∷ cs) = refl
+
+pub received-goes-on : (c d : Course) (q : ℕ) (x : GotPacket) → Received c d q x → GoesOn (state_of c) → GoesOn (state_of d)
+received-goes-on c d q x r =
+    goes-on c d (ap all_halted r.vcpus ∙ halted-lined (map (unlinked_page q) c.vcpus.items) ∙ halted-unlinked q c.vcpus.items) (ap (λ (y : Course). y.ended) r.same)

@@ -1,0 +1,116 @@
+//! Packets that come to a guest: one comes to hand, and is copied into the page that is armed.
+ghost use Rattle.std.specs.Prelude.{◌≡◌, ◌≢◌, ◌<◌, ◌≤◌, ◌+◌, ◌++◌, ◌∷◌, [], ℕ, IfOk, OnOk, OnErr, Some, None, length, map, option_map, true};
+ghost use Rattle.std.specs.Vec.{vec_len, vec_capacity};
+ghost use Rattle.base_words.specs.declared.ids.Ppn.{Ppn};
+ghost use Rattle.private_machine.specs.Backing.{page_at, with_first};
+ghost use Rattle.private_machine.specs.DeviceRegisters.{packet_noted};
+ghost use Rattle.private_machine.specs.Links.{unlinked_page};
+ghost use Rattle.private_machine.specs.Signals.{changed};
+ghost use Rattle.private_machine.specs.Vcpu.{with_line_on};
+ghost use Rattle.pmap_table.specs.PageMap.{with_page};
+ghost use Rattle.guest_devs.specs.Shown.{Agree};
+ghost use Rattle.isolation_law.specs.PacketRows.{ComesToHand, Receives};
+ghost use Rattle.isolation_law.specs.Phases.{GoesOn};
+ghost use Rattle.guest_course.specs.CourseView.{state_of, hand_of, got_of};
+ghost use Rattle.guest_course.specs.CourseRules.{IsSound};
+ghost use Rattle.guest_course.specs.EmulateCalls.{StaysLoaded};
+ghost use Rattle.guest_course.specs.Rebacking.{AllPlain};
+ghost use Rattle.guest_course.specs.ReceivingCalls.{MayDeliver, UsesPlace};
+
+use crate::course::Course;
+use crate::got::GotPacket;
+use base_words::{Bytes, Ppn};
+use isolation_law::row_keeps;
+use private_machine::unlink_page;
+use std::alloc::{AllocError, Global};
+use wire_queue::WirePacket;
+
+/// What a guest keeps of a packet.
+fn got(alloc: Global, packet: &WirePacket) -> Result<GotPacket, AllocError>
+    requires { packet.now.length ≤ 4096 }
+    ensures { IfOk result (λ kept. got_of kept ≡ hand_of packet.now) }
+{
+    let bytes = &packet.page().bytes()[..packet.length as usize];
+    Ok(GotPacket {
+        from: packet.from,
+        cell: packet.cell,
+        bytes: Bytes::from_vec(Vec::from_slice(alloc, bytes)?),
+    })
+}
+
+impl Course {
+    /// The page that is armed for a packet.
+    #[inline]
+    pub fn armed(&self) -> Option<Ppn>
+        ensures { option_map (λ (page : Ppn). page.0) result ≡ (state_of self.now).devices.armed }
+    {
+        self.devs.armed()
+    }
+
+    /// Takes a packet in hand, which goes without an entry.
+    pub fn take_in_hand(&mut self, packet: WirePacket)
+        requires sound { IsSound self.old }
+        requires goes_on { GoesOn (state_of self.old) }
+        requires free { self.old.hand ≡ None }
+        requires armed { (state_of self.old).devices.armed ≢ None }
+        requires some { 1 ≤ packet.length }
+        requires few { packet.length ≤ 4096 }
+        requires whole { length (hand_of packet).bytes ≡ packet.length }
+        ensures sound { IsSound self.new }
+        ensures comes { ComesToHand (state_of self.old) (state_of self.new) }
+        ensures same { self.new ≡ record self.old { hand = Some packet } }
+    {
+        row_keeps();
+        self.hand = Some(packet);
+    }
+
+    /// A packet's bytes come into a page, nobody links a line of the page any more, and the devices note the packet.
+    fn deliver(&mut self, page: Ppn, packet: &GotPacket)
+        requires may { MayDeliver self.old page.0 packet.now }
+        ensures same { self.new ≡ record self.old { vcpus = self.new.vcpus; devs = self.new.devs; pmap = self.new.pmap } }
+        ensures vcpus { self.new.vcpus.items ≡ changed 0 (with_line_on 3 true) (map (unlinked_page page.0) self.old.vcpus.items) }
+        ensures devs { self.new.devs.state ≡ record self.old.devs.state { page = packet_noted packet.now.from.0 (length packet.now.bytes) self.old.devs.state.page; packet = true } }
+        ensures pages { self.new.pmap ≡ with_page self.old.pmap page.0 (with_first packet.now.bytes (page_at self.old.pmap.pages page.0)) }
+        ensures agree { Agree self.new.devs.state self.new.vcpus.items }
+        ensures print_room { self.new.devs.print_room ≡ self.old.devs.print_room }
+        ensures send_room { self.new.devs.send_room ≡ self.old.devs.send_room }
+    {
+        let bytes = packet.bytes.as_slice();
+        self.pmap.copy_bytes_in(page, bytes);
+        unlink_page(&mut self.vcpus, page);
+        self.devs
+            .packet_by(&mut self.vcpus, packet.from, bytes.len() as u32);
+    }
+
+    /// Copies the packet in hand into the page that is armed. For want of memory nothing has changed.
+    pub fn receive(&mut self, alloc: Global) -> Result<(), AllocError>
+        requires sound { IsSound self.old }
+        requires goes_on { GoesOn (state_of self.old) }
+        requires in_hand { self.old.hand ≢ None }
+        requires armed { (state_of self.old).devices.armed ≢ None }
+        requires place { vec_len self.old.received < vec_capacity self.old.received }
+        ensures sound { IsSound self.new }
+        ensures receives { OnOk result (Receives (state_of self.old) (length self.old.received.items) (state_of self.new)) }
+        ensures unchanged { OnErr result (self.new ≡ self.old) }
+        ensures goes_on { GoesOn (state_of self.new) }
+        ensures free { OnOk result (self.new.hand ≡ None) }
+        ensures stays { StaysLoaded (state_of self.old) (state_of self.new) }
+        ensures print_room { self.new.devs.print_room ≡ self.old.devs.print_room }
+        ensures send_room { self.new.devs.send_room ≡ self.old.devs.send_room }
+        ensures cells { self.new.sent_from ≡ self.old.sent_from }
+        ensures place_room { UsesPlace self.old.received self.new.received }
+    {
+        row_keeps();
+        let Some(page) = self.devs.armed() else {
+            unreachable!();
+        };
+        let Some(packet) = &self.hand else {
+            unreachable!();
+        };
+        let packet = got(alloc, packet)?;
+        self.deliver(page, &packet);
+        self.hand = None;
+        self.received.push_reserved(packet);
+        Ok(())
+    }
+}
