@@ -15,11 +15,11 @@ use Rattle.machine_desc.specs.declared.machine.GuestSpec.{GuestSpec}
 use Rattle.machine_desc.specs.Described.{Described, description_of}
 use Rattle.machine_desc.proofs.NameFaults.{description_of-told}
 use Rattle.admission.specs.declared.faults.Fault.{Fault}
-use Rattle.admission.specs.declared.faults.Fault.TheVariants.{Words, Read, Long, Description, BadImage, Unbuilt, Admission}
+use Rattle.admission.specs.declared.faults.Fault.TheVariants.{Words, Read, Long, Description, BadImage, Unbuilt, CacheAdmission, Admission}
 use Rattle.admission.specs.declared.faults.UnbuiltKey.{UnbuiltKey}
 use Rattle.admission.specs.Words.{Form, Raw, Machine, Private, form_of}
 use Rattle.boot_frames.specs.declared.answers.Shortage.{Shortage}
-use Rattle.boot_frames.specs.declared.answers.Shortage.TheVariants.{Memory, Guest}
+use Rattle.boot_frames.specs.declared.answers.Shortage.TheVariants.{Memory, Cell, Guest}
 use Rattle.admission.specs.Chain.{Files, ◌>>=◌, known_form, fitting, content, of_description, longest_description, longest_image, longest_disk}
 use Rattle.admission.specs.Starts.{Start, unless, raw_image, elf_image, guest_image, of_guest, image_at, disk_at, start_at, starts_from}
 use Rattle.admission.specs.Unbuilt.{unbuilt, refused_key}
@@ -125,6 +125,7 @@ TellsBehind (Long name) = Unit {0}
 TellsBehind (Description fault) = fault ≢ description.Memory
 TellsBehind (BadImage guest fault) = fault ≢ image.Memory
 TellsBehind (Unbuilt key) = Unit {0}
+TellsBehind (CacheAdmission cell needs has) = Unit {0}
 TellsBehind (Admission guest needs has) = Unit {0}
 
 tells_behind : (fault : Fault) → TellsBehind fault → Tells fault
@@ -134,6 +135,7 @@ tells_behind (Long name) tells = tt
 tells_behind (Description fault) tells = tells
 tells_behind (BadImage guest fault) tells = tells
 tells_behind (Unbuilt key) tells = tt
+tells_behind (CacheAdmission cell needs has) tells = tt
 tells_behind (Admission guest needs has) tells = tt
 
 -- no refusal of a stage is want of memory, or the words'
@@ -186,6 +188,7 @@ refused_key-tells (Some key) = tt
 served-tells : (short : Option Shortage) → AlwaysTells (served short)
 served-tells None = tt
 served-tells (Some Memory) = tt
+served-tells (Some (Cell cell needs has)) = tt
 served-tells (Some (Guest guest needs has)) = tt
 
 checked-tells : (alone : Bool) (d : Described) (starts : List Start) → AlwaysTells (checked alone d starts)

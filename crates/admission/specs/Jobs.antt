@@ -1,18 +1,19 @@
 -- What is to be done, and why it is refused: all stages in order.
-use Rattle.std.specs.Prelude.{ℕ, List, [], ◌∷◌, map, Bool, true, false, codes, Option, Some, None, Result, Ok, Err}
+use Rattle.std.specs.Prelude.{ℕ, List, [], ◌∷◌, map, length, Bool, true, false, codes, Option, Some, None, Result, Ok, Err}
 use Rattle.private_machine.specs.PrivateRun.{Image}
 use Rattle.node_frames.specs.Layout.{Layout}
 use Rattle.node_frames.specs.Left.{first_left}
 use Rattle.boot_frames.specs.Chain.{first_short}
+use Rattle.boot_frames.specs.Claims.{claims_of}
 use Rattle.boot_frames.specs.Needs.{need_of}
 use Rattle.boot_frames.specs.declared.answers.Shortage.{Shortage}
-use Rattle.boot_frames.specs.declared.answers.Shortage.TheVariants.{Memory, Guest}
+use Rattle.boot_frames.specs.declared.answers.Shortage.TheVariants.{Memory, Cell, Guest}
 use Rattle.machine_desc.specs.declared.machine.GuestSpec.{GuestSpec}
 use Rattle.machine_desc.specs.declared.plan.Item.{Item}
 use Rattle.machine_desc.specs.declared.plan.Item.TheVariants.{Run}
 use Rattle.machine_desc.specs.Described.{Described, description_of}
 use Rattle.admission.specs.declared.faults.Fault.{Fault}
-use Rattle.admission.specs.declared.faults.Fault.TheVariants.{Admission}
+use Rattle.admission.specs.declared.faults.Fault.TheVariants.{CacheAdmission, Admission}
 use Rattle.admission.specs.Words.{Form, Raw, Machine, Private, form_of}
 use Rattle.admission.specs.Chain.{Files, ◌>>=◌, known_form, content, of_description, longest_description, longest_image}
 use Rattle.admission.specs.Starts.{Start, raw_image, of_guest, starts_from}
@@ -29,17 +30,19 @@ pub data Job : Type 0 where
 abbrev pub layout_in : Described → Layout
 layout_in d = record { nodes = d.nodes; frames = d.frames; cells = d.cells }
 
--- the first guest that doesn't get its frames, each of what those before it left
+-- the first cell that doesn't get the frames of its cache, or else the first guest that doesn't get its own, each of what those before
+-- it left
 abbrev pub short_in : Described → Option Shortage
-short_in d = first_short (layout_in d) 0 (map need_of d.guests) (first_left (layout_in d) d.lends)
+short_in d = first_short (layout_in d) (claims_of (length d.lends) d.cache (map need_of d.guests)) (first_left (layout_in d) d.lends)
 
--- such a guest is refused; memory is never short here
+-- such a cell or guest is refused; memory is never short here
 abbrev pub served : Option Shortage → Result (Unit {0}) Fault
 served None = Ok tt
 served (Some Memory) = Ok tt
+served (Some (Cell cell needs has)) = Err (CacheAdmission cell needs has)
 served (Some (Guest guest needs has)) = Err (Admission guest needs has)
 
--- first all that is asked for has to be built, then the guests have to get their frames
+-- first all that is asked for has to be built, then the cells and the guests have to get their frames
 abbrev pub checks : Described → Result (Unit {0}) Fault
 checks d = refused_key (unbuilt d) >>= λ _. served (short_in d)
 

@@ -16,8 +16,8 @@ use Rattle.admission.specs.Started.{AreStarted}
 use Rattle.admission.specs.Unbuilt.{unbuilt}
 use Rattle.admission.specs.Views.{starts_of}
 
--- the description is within its bounds; each guest has an image and the number of its disk, and starts from these; and each gets its
--- frames
+-- the description is within its bounds; each guest has an image and the number of its disk, and starts from these; and each cell and
+-- each guest gets its frames
 pub record IsSetup (setup : Setup) : Type 0 where
   pub described : IsDescribed setup.machine setup.plan
   pub images : length setup.images ≡ length setup.machine.guests

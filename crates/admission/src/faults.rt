@@ -2,7 +2,7 @@
 ghost use Rattle.std.specs.Prelude.{◌≡◌};
 ghost use Rattle.admission.specs.declared.faults.Refusal.TheVariants.{Memory};
 
-use base_words::{GuestId, Name};
+use base_words::{CellId, GuestId, Name};
 use elf_image::ImageFault;
 use machine_desc::DescFault;
 use std::alloc::{AllocError, AllocFailed};
@@ -42,6 +42,13 @@ pub enum Fault {
     /// The description asks for what isn't built.
     #[error("the description asks for what isn't built")]
     Unbuilt(UnbuiltKey),
+    /// A cell's cache has more frames than there are free on the cell's nodes.
+    #[error("a cache has more frames than there are on the cell's nodes")]
+    CacheAdmission {
+        cell: CellId,
+        needs: u32,
+        has: u32,
+    },
     /// A guest has more pages than there are frames left.
     #[error("a guest has more pages than there are frames left")]
     Admission {

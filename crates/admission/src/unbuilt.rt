@@ -1,4 +1,4 @@
-//! Whether all that a description asks for is built, and whether the guests get their frames.
+//! Whether all that a description asks for is built, and whether the cells and the guests get their frames.
 ghost use Rattle.std.specs.Prelude.{◌≡◌, [], ◌∷◌, position, not};
 ghost use Rattle.machine_desc.specs.Described.{described_seen};
 ghost use Rattle.machine_desc.specs.Accepted.{IsDescribed};
@@ -80,7 +80,7 @@ fn check_built(key: Option<UnbuiltKey>) -> Result<(), Fault>
     }
 }
 
-/// Whether the guests get their frames, each of what those before it left.
+/// Whether the cells get the frames of their caches and then the guests theirs, each of what those before it left.
 fn check_served(alloc: Global, machine: &Machine, plan: &Plan) -> Result<(), Refusal>
     requires { IsDescribed machine.now plan.now }
     ensures { Gives result (served (short_in (described_seen machine.now plan.now))) }
@@ -91,17 +91,21 @@ fn check_served(alloc: Global, machine: &Machine, plan: &Plan) -> Result<(), Ref
         alloc,
         &machine.shape,
         machine.lends.as_slice(),
+        machine.cache,
         needs.as_slice(),
     ) {
         Ok(()) => Ok(()),
         Err(Shortage::Memory) => Err(Refusal::Memory),
+        Err(Shortage::Cell { cell, needs, has }) => {
+            Err(Refusal::Fault(Fault::CacheAdmission { cell, needs, has }))
+        }
         Err(Shortage::Guest { guest, needs, has }) => {
             Err(Refusal::Fault(Fault::Admission { guest, needs, has }))
         }
     }
 }
 
-/// Whether all that is asked for is built, and the guests get their frames.
+/// Whether all that is asked for is built, and the cells and the guests get their frames.
 pub fn check(alloc: Global, machine: &Machine, plan: &Plan) -> Result<(), Refusal>
     requires { IsDescribed machine.now plan.now }
     ensures { Gives result (checks (described_seen machine.now plan.now)) }

@@ -1,85 +1,82 @@
--- The chain of guests, one more at its end.
-use Rattle.std.proofs.Common.{◌≡◌, ℕ, suc, ◌+◌, ◌<◌, ◌≤◌, if◌then◌else◌, Bool, List, [], ◌∷◌, ◌++◌, length, take, drop, get_or, Some, None, refl, sym, ap, ◌∙◌, arith, lt-ltb, le-ltb, lt_of_not-le}
-use Rattle.std.specs.Prelude.{Option, slice_get}
-use Rattle.std.proofs.lemmas.Option.{none-some, same_Some}
-use Rattle.std.proofs.lemmas.List.{take_more, take-append-drop, length-take}
+-- The chain of claims, one more at its end.
+use Rattle.std.proofs.Common.{◌≡◌, ℕ, ◌+◌, ◌<◌, ◌≤◌, if◌then◌else◌, Bool, List, [], ◌∷◌, ◌++◌, length, take, drop, get_or, Some, None, refl, sym, ap, ◌∙◌, lt-ltb, le-ltb, lt_of_not-le}
+use Rattle.std.specs.Prelude.{Option}
+use Rattle.std.proofs.lemmas.Option.{none-some}
+use Rattle.std.proofs.lemmas.List.{take_more, take-append-drop}
 use mathlib.Core.Logic.{dite}
 use native.Mathlib.Decide.{dec_le}
 use Rattle.node_frames.specs.Layout.{Layout}
-use Rattle.base_words.specs.declared.ids.GuestId.{GuestId}
-use Rattle.node_frames.specs.Left.{Left, has}
-use Rattle.boot_frames.specs.Chain.{home_of, after_guest, after_guests, shortage_of, first_short, Tells}
-use Rattle.boot_frames.specs.declared.needs.Need.{Need}
+use Rattle.node_frames.specs.Left.{Left}
+use Rattle.boot_frames.specs.Claims.{has_of}
+use Rattle.boot_frames.specs.Chain.{after_claim, after_claims, shortage_of, first_short, Tells}
+use Rattle.boot_frames.specs.declared.claims.Claim.{Claim}
 use Rattle.boot_frames.specs.declared.answers.Shortage.{Shortage}
-use Rattle.boot_frames.specs.declared.answers.Shortage.TheVariants.{Memory, Guest}
+use Rattle.boot_frames.specs.declared.answers.Shortage.TheVariants.{Memory, Cell, Guest}
+
+-- the shortage of a claim
+abbrev pub shortage_in : Layout → Claim → Left → Shortage
+shortage_in layout claim left = shortage_of claim.taker claim.frames (has_of layout claim.taker left)
 
 -- the step of the chain, by the test
-abbrev pub Chosen : Layout → ℕ → Need → List Need → Left → Bool → Option Shortage
-Chosen layout guest n ns left b = if b then Some (shortage_of layout guest n left) else first_short layout (guest + 1) ns (after_guest layout n left)
+abbrev pub Chosen : Layout → Claim → List Claim → Left → Bool → Option Shortage
+Chosen layout claim claims left b = if b then Some (shortage_in layout claim left) else first_short layout claims (after_claim layout claim left)
 
-pub chain-short : (layout : Layout) (guest : ℕ) (n : Need) (ns : List Need) (left : Left) → has layout (home_of layout n) left < n.pages → first_short layout guest (n ∷ ns) left ≡ Some (shortage_of layout guest n left)
-chain-short layout guest n ns left less = ap (Chosen layout guest n ns left) (lt-ltb (has layout (home_of layout n) left) n.pages less)
+pub chain-short : (layout : Layout) (claim : Claim) (claims : List Claim) (left : Left) → has_of layout claim.taker left < claim.frames → first_short layout (claim ∷ claims) left ≡ Some (shortage_in layout claim left)
+chain-short layout claim claims left less = ap (Chosen layout claim claims left) (lt-ltb (has_of layout claim.taker left) claim.frames less)
 
-pub chain-enough : (layout : Layout) (guest : ℕ) (n : Need) (ns : List Need) (left : Left) → n.pages ≤ has layout (home_of layout n) left → first_short layout guest (n ∷ ns) left ≡ first_short layout (guest + 1) ns (after_guest layout n left)
-chain-enough layout guest n ns left more = ap (Chosen layout guest n ns left) (le-ltb (has layout (home_of layout n) left) n.pages more)
+pub chain-enough : (layout : Layout) (claim : Claim) (claims : List Claim) (left : Left) → claim.frames ≤ has_of layout claim.taker left → first_short layout (claim ∷ claims) left ≡ first_short layout claims (after_claim layout claim left)
+chain-enough layout claim claims left more = ap (Chosen layout claim claims left) (le-ltb (has_of layout claim.taker left) claim.frames more)
 
--- where the first of the guests is not short, it has enough
-pub chain_enough : (layout : Layout) (guest : ℕ) (n : Need) (ns : List Need) (left : Left) → first_short layout guest (n ∷ ns) left ≡ None → n.pages ≤ has layout (home_of layout n) left
-chain_enough layout guest n ns left none = dite (dec_le n.pages (has layout (home_of layout n) left))
+-- where the first of the claims is not short, it has enough
+pub chain_enough : (layout : Layout) (claim : Claim) (claims : List Claim) (left : Left) → first_short layout (claim ∷ claims) left ≡ None → claim.frames ≤ has_of layout claim.taker left
+chain_enough layout claim claims left none = dite (dec_le claim.frames (has_of layout claim.taker left))
     (λ enough. enough)
-    (λ short. absurd (none-some (shortage_of layout guest n left) (sym none ∙ chain-short layout guest n ns left (lt_of_not-le short))))
+    (λ short. absurd (none-some (shortage_in layout claim left) (sym none ∙ chain-short layout claim claims left (lt_of_not-le short))))
 
--- guests behind others that all have enough
-pub chain-append : (layout : Layout) (guest : ℕ) (ns ms : List Need) (left : Left) → first_short layout guest ns left ≡ None → first_short layout guest (ns ++ ms) left ≡ first_short layout (guest + length ns) ms (after_guests layout ns left)
-chain-append layout guest [] ms left none = ap (λ k. first_short layout k ms left) (omega arith)
-chain-append layout guest (n ∷ ns) ms left none =
-    let enough = chain_enough layout guest n ns left none in
-    chain-enough layout guest n (ns ++ ms) left enough
-    ∙ chain-append layout (guest + 1) ns ms (after_guest layout n left) (sym (chain-enough layout guest n ns left enough) ∙ none)
-    ∙ ap (λ k. first_short layout k ms (after_guests layout ns (after_guest layout n left))) (omega arith)
+-- claims behind others that all have enough
+pub chain-append : (layout : Layout) (cs ds : List Claim) (left : Left) → first_short layout cs left ≡ None → first_short layout (cs ++ ds) left ≡ first_short layout ds (after_claims layout cs left)
+chain-append layout [] ds left none = refl
+chain-append layout (c ∷ cs) ds left none =
+    let enough = chain_enough layout c cs left none in
+    chain-enough layout c (cs ++ ds) left enough
+    ∙ chain-append layout cs ds (after_claim layout c left) (sym (chain-enough layout c cs left enough) ∙ none)
 
--- guests behind one that is short change nothing
-pub chain-later : (layout : Layout) (guest : ℕ) (ns ms : List Need) (left : Left) (short : Shortage) → first_short layout guest ns left ≡ Some short → first_short layout guest (ns ++ ms) left ≡ Some short
-chain-later layout guest [] ms left short is = absurd (none-some short is)
-chain-later layout guest (n ∷ ns) ms left short is = dite (dec_le n.pages (has layout (home_of layout n) left))
-    (λ enough. chain-enough layout guest n (ns ++ ms) left enough ∙ chain-later layout (guest + 1) ns ms (after_guest layout n left) short (sym (chain-enough layout guest n ns left enough) ∙ is))
-    (λ less. chain-short layout guest n (ns ++ ms) left (lt_of_not-le less) ∙ sym (chain-short layout guest n ns left (lt_of_not-le less)) ∙ is)
+-- claims behind one that is short change nothing
+pub chain-later : (layout : Layout) (cs ds : List Claim) (left : Left) (short : Shortage) → first_short layout cs left ≡ Some short → first_short layout (cs ++ ds) left ≡ Some short
+chain-later layout [] ds left short is = absurd (none-some short is)
+chain-later layout (c ∷ cs) ds left short is = dite (dec_le c.frames (has_of layout c.taker left))
+    (λ enough. chain-enough layout c (cs ++ ds) left enough ∙ chain-later layout cs ds (after_claim layout c left) short (sym (chain-enough layout c cs left enough) ∙ is))
+    (λ less. chain-short layout c (cs ++ ds) left (lt_of_not-le less) ∙ sym (chain-short layout c cs left (lt_of_not-le less)) ∙ is)
 
--- fewer guests where no guest is short
-pub chain-fewer : (layout : Layout) (guest : ℕ) (ns ms : List Need) (left : Left) → first_short layout guest (ns ++ ms) left ≡ None → first_short layout guest ns left ≡ None
-chain-fewer layout guest [] ms left none = refl
-chain-fewer layout guest (n ∷ ns) ms left none =
-    let enough = chain_enough layout guest n (ns ++ ms) left none in
-    chain-enough layout guest n ns left enough ∙ chain-fewer layout (guest + 1) ns ms (after_guest layout n left) (sym (chain-enough layout guest n (ns ++ ms) left enough) ∙ none)
+-- fewer claims where none is short
+pub chain-fewer : (layout : Layout) (cs ds : List Claim) (left : Left) → first_short layout (cs ++ ds) left ≡ None → first_short layout cs left ≡ None
+chain-fewer layout [] ds left none = refl
+chain-fewer layout (c ∷ cs) ds left none =
+    let enough = chain_enough layout c (cs ++ ds) left none in
+    chain-enough layout c cs left enough ∙ chain-fewer layout cs ds (after_claim layout c left) (sym (chain-enough layout c (cs ++ ds) left enough) ∙ none)
 
-pub after_guests-push : (layout : Layout) (ns : List Need) (n : Need) (left : Left) → after_guests layout (ns ++ n ∷ []) left ≡ after_guest layout n (after_guests layout ns left)
-after_guests-push layout [] n left = refl
-after_guests-push layout (m ∷ ns) n left = after_guests-push layout ns n (after_guest layout m left)
+pub after_claims-push : (layout : Layout) (cs : List Claim) (c : Claim) (left : Left) → after_claims layout (cs ++ c ∷ []) left ≡ after_claim layout c (after_claims layout cs left)
+after_claims-push layout [] c left = refl
+after_claims-push layout (d ∷ cs) c left = after_claims-push layout cs c (after_claim layout d left)
 
--- the parts of one shortage are those of another that is the same
-same_guest : (g h : GuestId) (a b m n : ℕ) → Guest g a m ≡ Guest h b n → (g ≡ h) × (a ≡ b) × (m ≡ n)
-same_guest g h a b m n e = (grind arith, grind arith, grind arith)
+-- what is told is the shortage, unless memory was wanting
+pub told_short : (short : Option Shortage) (fault : Shortage) → short ≡ Some fault → Tells short fault
+told_short short Memory is = tt
+told_short short (Cell cell needs has) is = is
+told_short short (Guest guest needs has) is = is
 
--- a shortage names one of the guests, what it needs and what it has, which is less
-pub chain_names : (layout : Layout) (first : ℕ) (ns : List Need) (left : Left) (guest : GuestId) (pages has : ℕ) → first_short layout first ns left ≡ Some (Guest guest pages has)
-    → (need : Need) × (place : ℕ) × (guest.0 ≡ first + place) × (slice_get ns place ≡ Some need) × (need.pages ≡ pages) × (has < pages)
-chain_names layout first [] left guest pages has is = absurd (none-some (Guest guest pages has) is)
-chain_names layout first (n ∷ ns) left guest pages most is = dite (dec_le n.pages (has layout (home_of layout n) left))
-    (λ enough. let more = chain_names layout (first + 1) ns (after_guest layout n left) guest pages most (sym (chain-enough layout first n ns left enough) ∙ is) in
-    (more.0, suc more.1, (let p = more.2 in omega arith), more.3, more.4, more.5))
-    (λ less. let same = same_Some (shortage_of layout first n left) (Guest guest pages most) (sym (chain-short layout first n ns left (lt_of_not-le less)) ∙ is) in
-    let short = lt_of_not-le less in
-    let parts = same_guest (record { 0 = first }) guest n.pages pages (has layout (home_of layout n) left) most same in
-    (n, 0, (let p = ap (λ (g : GuestId). g.0) parts.0 in omega arith), refl, parts.1, (let p = parts.1 in let h = parts.2 in omega arith)))
+later : (layout : Layout) (claims : List Claim) (k : ℕ) (d : Claim) (left now : Left) (fault : Shortage) → k < length claims → first_short layout (take k claims) left ≡ None
+    → now ≡ after_claims layout (take k claims) left → first_short layout (get_or claims k d ∷ []) now ≡ Some fault → first_short layout claims left ≡ Some fault
+later layout claims k d left now fault within none at told =
+    let c : Claim = get_or claims k d in
+    let here : first_short layout (take k claims ++ c ∷ []) left ≡ Some fault =
+    chain-append layout (take k claims) (c ∷ []) left none ∙ ap (first_short layout (c ∷ [])) (sym at) ∙ told in
+    ap (λ (l : List Claim). first_short layout l left) (sym (take-append-drop (k + 1) claims) ∙ ap (λ (l : List Claim). l ++ drop (k + 1) claims) (take_more claims k d within))
+    ∙ chain-later layout (take k claims ++ c ∷ []) (drop (k + 1) claims) left fault here
 
--- a refusal of the next guest, where those before it have enough
-pub tells_later : (layout : Layout) (needs : List Need) (k : ℕ) (d : Need) (left now : Left) (fault : Shortage) → k < length needs → first_short layout 0 (take k needs) left ≡ None
-    → now ≡ after_guests layout (take k needs) left → Tells (first_short layout k (get_or needs k d ∷ []) now) fault → Tells (first_short layout 0 needs left) fault
-tells_later layout needs k d left now Memory within none at told = tt
-tells_later layout needs k d left now (Guest guest pages most) within none at told =
-    let n : Need = get_or needs k d in
-    let few : length (take k needs) ≡ k = let l = length-take k needs in omega arith in
-    let here : first_short layout 0 (take k needs ++ n ∷ []) left ≡ Some (Guest guest pages most) =
-    chain-append layout 0 (take k needs) (n ∷ []) left none ∙ ap (λ j. first_short layout j (n ∷ []) (after_guests layout (take k needs) left)) (omega arith) ∙ ap (first_short layout k (n ∷ [])) (sym at) ∙ told in
-    ap (λ (l : List Need). first_short layout 0 l left) (sym (take-append-drop (k + 1) needs) ∙ ap (λ (l : List Need). l ++ drop (k + 1) needs) (take_more needs k d within))
-    ∙ chain-later layout 0 (take k needs ++ n ∷ []) (drop (k + 1) needs) left (Guest guest pages most) here
+-- a refusal of the next claim, where those before it have enough
+pub tells_later : (layout : Layout) (claims : List Claim) (k : ℕ) (d : Claim) (left now : Left) (fault : Shortage) → k < length claims → first_short layout (take k claims) left ≡ None
+    → now ≡ after_claims layout (take k claims) left → Tells (first_short layout (get_or claims k d ∷ []) now) fault → Tells (first_short layout claims left) fault
+tells_later layout claims k d left now Memory within none at told = tt
+tells_later layout claims k d left now (Cell cell needs has) within none at told = later layout claims k d left now (Cell cell needs has) within none at told
+tells_later layout claims k d left now (Guest guest needs has) within none at told = later layout claims k d left now (Guest guest needs has) within none at told

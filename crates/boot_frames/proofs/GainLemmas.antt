@@ -1,4 +1,4 @@
--- What a view gains by one frame after another, and what it has after one guest after another.
+-- What a view gains by one frame after another, and what it has after one claim after another.
 use Rattle.std.proofs.Common.{◌≡◌, ℕ, ◌+◌, ◌==◌, if◌then◌else◌, Bool, List, [], ◌∷◌, ◌++◌, ap, subst, arith}
 use Rattle.std.specs.Prelude.{All}
 use Rattle.std.proofs.lemmas.List.Elements.{All-nil, All-push, All-weaker}
@@ -54,7 +54,7 @@ gains_more layout home fs f v m w a g = record {
   plain = λ all. plain_loan layout home f m w g (a.plain all);
 }
 
--- the same for one guest after another
+-- the same for one claim after another
 times_taken-push : (frame : ℕ) (ts : List Taken) (t : Taken) → times_taken frame (ts ++ t ∷ []) ≡ times_taken frame ts + frame_times frame t.frames
 times_taken-push frame [] t = omega arith
 times_taken-push frame (u ∷ ts) t = let rest = times_taken-push frame ts t in omega arith

@@ -10,3 +10,7 @@ pub mod LotLemmas
 pub mod CountLemmas
 pub mod PagesLemmas
 pub mod AdmitLemmas
+pub mod OwnLemmas
+pub mod ClaimLemmas
+pub mod NameLemmas
+pub mod CacheLemmas

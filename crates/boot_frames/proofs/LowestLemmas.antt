@@ -13,7 +13,7 @@ use Rattle.node_frames.specs.Places.{IsOn}
 use Rattle.node_frames.specs.Left.{Left, left_of, one_less}
 use Rattle.boot_frames.specs.Chain.{lowest_frame}
 use Rattle.boot_frames.specs.Takings.{gone, OnlyTook, TakesNext}
-use Rattle.boot_frames.specs.declared.needs.Need.{Need}
+use Rattle.boot_frames.specs.declared.claims.Taker.{Taker}
 use Rattle.boot_frames.proofs.GainLemmas.{one_of}
 
 one_less-here : (f : ℕ → ℕ) (k : ℕ) → one_less f k k ≡ f k - 1
@@ -22,8 +22,8 @@ one_less-here f k = ap (λ (b : Bool). if b then f k - 1 else f k) (eq-eqb k k r
 one_less-else : (f : ℕ → ℕ) (k n : ℕ) → n ≢ k → one_less f k n ≡ f n
 one_less-else f k n apart = ap (λ (b : Bool). if b then f n - 1 else f n) (ne_eqb n k apart)
 
-module _ (table : MadeTable) (layout : Layout) (need : Need) (f : Frame) (v w : View) (on : (node k : ℕ) → k < layout.frames → IsOn layout node (node * layout.frames + k))
-    (t : TakesNext table layout need f v w) (within : f.number.0 < table.terms.frames)
+module _ (table : MadeTable) (layout : Layout) (taker : Taker) (f : Frame) (v w : View) (on : (node k : ℕ) → k < layout.frames → IsOn layout node (node * layout.frames + k))
+    (t : TakesNext table layout taker f v w) (within : f.number.0 < table.terms.frames)
     (place : (k : ℕ) × (k < layout.frames) × (f.number.0 ≡ t.next.node.0 * layout.frames + k)) (only : OnlyTook table.terms layout v) where
   abbrev node : ℕ
   node = t.next.node.0

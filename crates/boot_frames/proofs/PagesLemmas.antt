@@ -1,5 +1,5 @@
--- How many pages get a frame: as many as a guest has, counted by the laws of searches.
-use Rattle.std.proofs.Common.{◌≡◌, ◌≢◌, ℕ, zero, suc, ◌+◌, ◌*◌, ◌<◌, ◌≤◌, ◌==◌, if◌then◌else◌, Bool, true, List, [], replicate, refl, sym, ap, ◌∙◌, subst, arith, eq-eqb, ne_eqb, add-one, min}
+-- How many frames a claim gets: as many as there are, counted by the laws of searches.
+use Rattle.std.proofs.Common.{◌≡◌, ◌≢◌, ℕ, zero, suc, ◌+◌, ◌*◌, ◌<◌, ◌≤◌, ◌==◌, if◌then◌else◌, Bool, true, [], replicate, refl, sym, ap, ◌∙◌, subst, arith, eq-eqb, ne_eqb, add-one, min}
 use Rattle.std.specs.Prelude.{not, ◌&&◌, ◌||◌, Option, Some, None}
 use Rattle.std.proofs.Math.Nat.{mul-pos}
 use Rattle.std.proofs.lemmas.Bool.Decides.{nat_tests}
@@ -9,9 +9,14 @@ use Rattle.node_frames.specs.Layout.{Layout, IsLayout}
 use Rattle.base_words.specs.declared.ids.NodeId.{NodeId}
 use Rattle.frame_words.specs.Holders.{MadeTable}
 use Rattle.node_frames.specs.Places.{cell_of_node, FitsShape}
-use Rattle.node_frames.specs.BootOrder.{boot_nodes}
+use Rattle.node_frames.specs.BootOrder.{boot_nodes, cell_nodes}
 use Rattle.node_frames.specs.Left.{sum_below, Left, cell_frames, cell_gives, has, node_gives, first_giving, taking, left_by, after_search, after_searches}
+use Rattle.boot_frames.specs.Claims.{home_of, order_of, has_of, IsAtHome}
+use Rattle.boot_frames.specs.Chain.{after_frames}
 use Rattle.boot_frames.specs.Counts.{AreCounted}
+use Rattle.boot_frames.specs.declared.claims.Taker.{Taker}
+use Rattle.boot_frames.specs.declared.claims.Taker.TheVariants.{Cache, Pages}
+use Rattle.boot_frames.proofs.OwnLemmas.{own_node}
 
 -- a number of a sum is no more than the sum
 sum_part : (f : ℕ → ℕ) (n i : ℕ) → i < n → f i ≤ sum_below f n
@@ -27,8 +32,15 @@ gives_some frames loans cell home gives = (grind (arith, nat_tests), λ outside.
 some_of-both : (m n : ℕ) → 0 < m → 0 < n → 0 < min m n
 some_of-both m n p q = omega arith
 
+-- a cell has a frame where one of its nodes does
+frames-some : (layout : Layout) (cell : ℕ) (left : Left) (node : ℕ) → node < layout.nodes → cell_of_node layout node ≡ cell → 0 < left.frames node → 0 < cell_frames layout left cell
+frames-some layout cell left node within on some =
+    let part = sum_part (λ n. if cell_of_node layout n == cell then left.frames n else 0) layout.nodes node within in
+    let here : (if cell_of_node layout node == cell then left.frames node else 0) ≡ left.frames node = ap (λ (b : Bool). if b then left.frames node else 0) (eq-eqb (cell_of_node layout node) cell on) in
+    omega arith
+
 -- a guest has something where a node gives a frame
-pub has-some : (layout : Layout) (home : ℕ) (left : Left) (node : ℕ) → node < layout.nodes → cell_of_node layout node < 8 → node_gives layout home left node ≡ true → 0 < has layout home left
+has-some : (layout : Layout) (home : ℕ) (left : Left) (node : ℕ) → node < layout.nodes → cell_of_node layout node < 8 → node_gives layout home left node ≡ true → 0 < has layout home left
 unfolding has
 has-some layout home left node within low gives =
     let all = sum_part (cell_gives layout home left) 8 cell low in let some = here in omega arith
@@ -40,10 +52,7 @@ has-some layout home left node within low gives =
     some = gives_some (left.frames node) (left.loans cell) cell home gives
 
     frames : 0 < cell_frames layout left cell
-    frames =
-        let part = sum_part (λ n. if cell_of_node layout n == cell then left.frames n else 0) layout.nodes node within in
-        let here : (if cell_of_node layout node == cell then left.frames node else 0) ≡ left.frames node = ap (λ (b : Bool). if b then left.frames node else 0) (eq-eqb cell cell refl) in
-        let more = some.0 in omega arith
+    frames = frames-some layout cell left node within refl some.0
 
     here : 0 < cell_gives layout home left cell
     here = dite (ℕ_discrete cell home)
@@ -66,42 +75,56 @@ some_table layout lies some few = record {
   };
 }
 
--- so many searches take as many, up to all that was left
-pub record Take (layout : Layout) (home : ℕ) (order : List NodeId) (left : Left) : Type 0 where
-  pub each : (k : ℕ) → k ≤ has layout home left → has layout home (after_searches layout home order k left) + k ≡ has layout home left
+-- there is something where a search gives a frame
+pub taker-some : (layout : Layout) (taker : Taker) (now : Left) (node : NodeId) → node.0 < layout.nodes → cell_of_node layout node.0 < 8
+    → node_gives layout (home_of layout taker) now node.0 ≡ true → Some node ≡ first_giving layout (home_of layout taker) now (order_of layout taker) → 0 < has_of layout taker now
+taker-some layout (Cache cell) now node within low gives is =
+    frames-some layout cell.0 now node.0 within (own_node layout cell.0 _ node (sym is)) (gives_some (now.frames node.0) (now.loans (cell_of_node layout node.0)) (cell_of_node layout node.0) cell.0 gives).0
+taker-some layout (Pages guest home) now node within low gives is = has-some layout (cell_of_node layout home.0) now node.0 within low gives
 
--- the law says it of the boot order of each layout that has a table
-abbrev pub Law : Type 0
-Law = (table : MadeTable) (layout : Layout) (home : ℕ) (start : NodeId) (left : Left) (k : ℕ) → FitsShape table layout → start.0 < layout.nodes → k ≤ has layout home left
+-- so many searches take as many, up to all that was left
+pub record Take (layout : Layout) (taker : Taker) (left : Left) : Type 0 where
+  pub each : (k : ℕ) → k ≤ has_of layout taker left → has_of layout taker (after_frames layout taker k left) + k ≡ has_of layout taker left
+
+-- the laws say it of a guest's order, in each layout that has a table, and of a cell's own nodes
+abbrev pub GuestLaw : Type 0
+GuestLaw = (table : MadeTable) (layout : Layout) (home : ℕ) (start : NodeId) (left : Left) (k : ℕ) → FitsShape table layout → start.0 < layout.nodes → k ≤ has layout home left
     → has layout home (after_searches layout home (boot_nodes layout start) k left) + k ≡ has layout home left
 
-pub takes : Law → (layout : Layout) (home : ℕ) (start : NodeId) (order : List NodeId) (left : Left) → IsLayout layout → AreCounted layout → layout.nodes * layout.frames < 4294967296 → start.0 < layout.nodes
-    → order ≡ boot_nodes layout start → Take layout home order left
-takes law layout home start order left lies cells few within is = subst (λ (o : List NodeId). Take layout home o left) (sym is)
-    (record { each = λ k most. law (some_table layout lies (omega arith) few) layout home start left k (record { lies = lies; frames = refl; cells = cells }) within most })
+abbrev pub CacheLaw : Type 0
+CacheLaw = (layout : Layout) (cell : ℕ) (left : Left) (k : ℕ) → k ≤ cell_frames layout left cell
+    → cell_frames layout (after_searches layout cell (cell_nodes layout cell) k left) cell + k ≡ cell_frames layout left cell
 
--- one page more: there was something left
-pub page_there : (layout : Layout) (home : ℕ) (order : List NodeId) (left : Left) (k : ℕ) → Take layout home order left → k ≤ has layout home left
-    → 0 < has layout home (after_searches layout home order k left) → k + 1 ≤ has layout home left
-page_there layout home order left k t most some = let here = t.each k most in omega arith
+pub takes : GuestLaw → CacheLaw → (layout : Layout) (taker : Taker) (left : Left) → IsLayout layout → AreCounted layout → layout.nodes * layout.frames < 4294967296 → IsAtHome layout taker → Take layout taker left
+takes guest cache layout (Cache cell) left lies cells few home = record { each = λ k most. cache layout cell.0 left k most }
+takes guest cache layout (Pages number node) left lies cells few home = record {
+  each = λ k most. guest (some_table layout lies (omega arith) few) layout (cell_of_node layout node.0) node left k (record { lies = lies; frames = refl; cells = cells }) home most;
+}
 
-page_step : (layout : Layout) (home : ℕ) (order : List NodeId) (left now : Left) (k : ℕ) (o : Option NodeId) → now ≡ after_searches layout home order k left → o ≡ first_giving layout home now order
-    → left_by layout home now o ≡ after_searches layout home order (k + 1) left
-page_step layout home order left now k o at is =
+-- one frame more: there was something left
+pub frame_there : (layout : Layout) (taker : Taker) (left : Left) (k : ℕ) → Take layout taker left → k ≤ has_of layout taker left
+    → 0 < has_of layout taker (after_frames layout taker k left) → k + 1 ≤ has_of layout taker left
+frame_there layout taker left k t most some = let here = t.each k most in omega arith
+
+frame_step : (layout : Layout) (taker : Taker) (left now : Left) (k : ℕ) (o : Option NodeId) → now ≡ after_frames layout taker k left → o ≡ first_giving layout (home_of layout taker) now (order_of layout taker)
+    → left_by layout (home_of layout taker) now o ≡ after_frames layout taker (k + 1) left
+frame_step layout taker left now k o at is =
+    let home = home_of layout taker in
+    let order = order_of layout taker in
     ap (left_by layout home now) is ∙ ap (after_search layout home order) at ∙ sym (ap (λ n. after_searches layout home order n left) (add-one k))
 
-pub page-more : (layout : Layout) (home : ℕ) (order : List NodeId) (left now : Left) (k : ℕ) (node : NodeId) → now ≡ after_searches layout home order k left → Some node ≡ first_giving layout home now order
-    → taking layout home now node.0 ≡ after_searches layout home order (k + 1) left
-page-more layout home order left now k node at is = page_step layout home order left now k (Some node) at is
+pub frame-more : (layout : Layout) (taker : Taker) (left now : Left) (k : ℕ) (node : NodeId) → now ≡ after_frames layout taker k left → Some node ≡ first_giving layout (home_of layout taker) now (order_of layout taker)
+    → taking layout (home_of layout taker) now node.0 ≡ after_frames layout taker (k + 1) left
+frame-more layout taker left now k node at is = frame_step layout taker left now k (Some node) at is
 
--- no page more: nothing was left
-pub page_none : (layout : Layout) (home : ℕ) (order : List NodeId) (left now : Left) (k : ℕ) → Take layout home order left → k ≤ has layout home left
-    → now ≡ after_searches layout home order k left → None ≡ first_giving layout home now order → k ≡ has layout home left
-page_none layout home order left now k t most at is = dite (dec_le (k + 1) (has layout home left))
+-- no frame more: nothing was left
+pub frame_none : (layout : Layout) (taker : Taker) (left now : Left) (k : ℕ) → Take layout taker left → k ≤ has_of layout taker left
+    → now ≡ after_frames layout taker k left → None ≡ first_giving layout (home_of layout taker) now (order_of layout taker) → k ≡ has_of layout taker left
+frame_none layout taker left now k t most at none = dite (dec_le (k + 1) (has_of layout taker left))
     (λ more.
     let here = t.each k most in
     let next = t.each (k + 1) more in
-    let same : has layout home (after_searches layout home order (k + 1) left) ≡ has layout home (after_searches layout home order k left) =
-    ap (has layout home) (sym (page_step layout home order left now k None at is) ∙ at) in
+    let same : has_of layout taker (after_frames layout taker (k + 1) left) ≡ has_of layout taker (after_frames layout taker k left) =
+    ap (has_of layout taker) (sym (frame_step layout taker left now k None at none) ∙ at) in
     absurd (omega arith))
-    (λ none. omega arith)
+    (λ all. omega arith)

@@ -1,4 +1,4 @@
--- From what was taken and split off to what each guest has.
+-- From what was taken and split off to what each claim has.
 use Rattle.std.proofs.Common.{◌≡◌, ℕ, ◌+◌, ◌-◌, ◌<◌, List, [], ◌∷◌, replicate, get_or, refl, sym, ap, ◌∙◌, subst, arith}
 use Rattle.std.specs.List.{AllZip}
 use Rattle.std.proofs.lemmas.List.{get_or-append_right, get_or-replicate, length-replicate}
@@ -10,12 +10,12 @@ use Rattle.frame_words.specs.Splits.{named, frame_times}
 use Rattle.frame_words.specs.Steps.{begun_with}
 use Rattle.frame_words.specs.declared.terms.Terms.{Terms}
 use Rattle.node_frames.specs.Left.{Left, left_of, first_left}
-use Rattle.boot_frames.specs.Chain.{after_guest}
+use Rattle.boot_frames.specs.Chain.{after_claim}
 use Rattle.boot_frames.specs.Loans.{loans_of}
-use Rattle.boot_frames.specs.Lots.{ArePages, Serves, ServesAll, times_given}
+use Rattle.boot_frames.specs.Lots.{AreTaken, Serves, ServesAll, times_given}
 use Rattle.boot_frames.specs.Takings.{OnlyTook, TakesFor, TakesForAll}
 use Rattle.boot_frames.specs.Givings.{times_taken, Gives}
-use Rattle.boot_frames.specs.declared.needs.Need.{Need}
+use Rattle.boot_frames.specs.declared.claims.Claim.{Claim}
 use Rattle.boot_frames.specs.declared.lots.Lot.{Lot}
 use Rattle.boot_frames.specs.declared.taken.Taken.{Taken}
 
@@ -37,20 +37,20 @@ first_only terms layout fresh all_left = record {
     full : (node : ℕ) → (left_of layout terms.lends (first_view terms)).frames node ≡ layout.frames
     full node = ap (λ (l : Left). l.frames node) all_left
 
-serves : (table : MadeTable) (layout : Layout) (left : Left) (n : Need) (t : Taken) (lot : Lot) → TakesFor table.terms layout left n t → Gives table layout t lot → Serves table layout left n lot
+serves : (table : MadeTable) (layout : Layout) (left : Left) (n : Claim) (t : Taken) (lot : Lot) → TakesFor table.terms layout left n t → Gives table layout t lot → Serves table layout left n lot
 serves table layout left n t lot f g = record {
-  pages = subst (λ (fs : List Frame). ArePages table.terms layout left n fs) (sym g.frames) f.pages;
+  taken = subst (λ (fs : List Frame). AreTaken table.terms layout left n fs) (sym g.frames) f.frames;
   holds = g.holds ∙ (λ i. begun_with (named (sym g.frames i) (loans_of layout (f.home i) (sym g.frames i))));
   made = g.made;
 }
 
-pub serves_all : (table : MadeTable) (layout : Layout) (left : Left) (ns : List Need) (ts : List Taken) (lots : List Lot) → TakesForAll table.terms layout left ns ts → AllZip (Gives table layout) ts lots → ServesAll table layout left ns lots
+pub serves_all : (table : MadeTable) (layout : Layout) (left : Left) (ns : List Claim) (ts : List Taken) (lots : List Lot) → TakesForAll table.terms layout left ns ts → AllZip (Gives table layout) ts lots → ServesAll table layout left ns lots
 serves_all table layout left [] [] [] f g = tt
 serves_all table layout left [] [] (lot ∷ lots) f g = absurd g
 serves_all table layout left [] (t ∷ ts) lots f g = absurd f
 serves_all table layout left (n ∷ ns) [] lots f g = absurd f
 serves_all table layout left (n ∷ ns) (t ∷ ts) [] f g = absurd g
-serves_all table layout left (n ∷ ns) (t ∷ ts) (lot ∷ lots) f g = (serves table layout left n t lot f.0 g.0, serves_all table layout (after_guest layout n left) ns ts lots f.1 g.1)
+serves_all table layout left (n ∷ ns) (t ∷ ts) (lot ∷ lots) f g = (serves table layout left n t lot f.0 g.0, serves_all table layout (after_claim layout n left) ns ts lots f.1 g.1)
 
 pub times_same : (table : MadeTable) (layout : Layout) (ts : List Taken) (lots : List Lot) (frame : ℕ) → AllZip (Gives table layout) ts lots → times_given frame lots ≡ times_taken frame ts
 times_same table layout [] [] frame g = refl

@@ -1,4 +1,4 @@
--- A guest's holds go from the first holder to one of its own.
+-- A claim's holds go from the first holder to one of its own.
 use Rattle.std.proofs.Common.{◌≡◌, ℕ, zero, suc, ◌+◌, ◌<◌, ◌≤◌, ◌==◌, List, [], ◌∷◌, ◌++◌, length, refl, ap, arith, eq-eqb}
 use Rattle.std.specs.Prelude.{All, slice_index, slice_index_or}
 use Rattle.std.specs.List.{AllZip}
@@ -20,7 +20,7 @@ loans_for layout t = loans_of layout t.home.0 t.frames
 pub loans_each : (layout : Layout) (home : ℕ) (frames : List Frame) (cell : ℕ) → cell < 8 → slice_index (loans_of layout home frames) cell ≡ loans_in layout home frames cell
 loans_each layout home frames cell low = get_or-map-range_with_len (loans_in layout home frames) 0 8 cell cell 0 low (omega arith)
 
--- the first of these guests' holds can be split off
+-- the first of these holds can be split off
 pub has_named : (layout : Layout) (v : View) (t : Taken) (ts : List Taken) → HasAll layout v (t ∷ ts) → HasNamed v t.frames (loans_for layout t)
 has_named layout v t ts h = record {
   holds = λ frame. let e = h.frames frame in omega arith;

@@ -1,4 +1,4 @@
--- What a view gains by frames that are taken for a guest, one after another.
+-- What a view gains by frames that are taken one after another.
 use Rattle.std.specs.Prelude.{◌≡◌, ℕ, ◌+◌, ◌<◌, List, All, Contains}
 use Rattle.base_words.specs.declared.frame.Frame.{Frame}
 use Rattle.node_frames.specs.Layout.{Layout}

@@ -1,5 +1,7 @@
 pub mod Needs
+pub mod Claims
 pub mod Chain
+pub mod Names
 pub mod Loans
 pub mod Lots
 pub mod Gains

@@ -1,4 +1,4 @@
--- How many loans of each cell a guest's frames take: one for each frame that lies outside the guest's home cell.
+-- How many loans of each cell frames take: one for each frame that lies outside the home cell.
 use Rattle.std.specs.Prelude.{ℕ, ◌/◌, ◌==◌, ◌&&◌, Bool, not, List, map, count_by}
 use Rattle.std.specs.List.{range_with_len}
 use Rattle.base_words.specs.declared.frame.Frame.{Frame}

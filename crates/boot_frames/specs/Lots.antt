@@ -1,4 +1,4 @@
--- What the guests get.
+-- What the cells and the guests get.
 use Rattle.std.specs.Prelude.{◌≡◌, ℕ, ◌+◌, ◌<◌, List, [], ◌∷◌, length, replicate, slice_get, All, Contains, Some, ⊤}
 use Rattle.base_words.specs.declared.frame.Frame.{Frame}
 use Rattle.node_frames.specs.Layout.{Layout}
@@ -10,9 +10,10 @@ use Rattle.frame_words.specs.Steps.{begun_with}
 use Rattle.frame_words.specs.declared.view.Hold.{Hold}
 use Rattle.frame_words.specs.declared.terms.Terms.{Terms}
 use Rattle.node_frames.specs.Left.{Left}
-use Rattle.boot_frames.specs.Chain.{home_of, after_guest, frame_of_page}
+use Rattle.boot_frames.specs.Claims.{home_of}
+use Rattle.boot_frames.specs.Chain.{after_claim, frame_at}
 use Rattle.boot_frames.specs.Loans.{loans_of}
-use Rattle.boot_frames.specs.declared.needs.Need.{Need}
+use Rattle.boot_frames.specs.declared.claims.Claim.{Claim}
 use Rattle.boot_frames.specs.declared.lots.Lot.{Lot}
 
 -- a frame of the table, taken for the first time, with a page of zeros
@@ -21,25 +22,25 @@ pub record IsNew (terms : Terms) (frame : Frame) : Type 0 where
   pub zeroed : frame.page.value ≡ replicate 4096 0
   pub first : frame.generation ≡ terms.first + 1
 
--- a guest's frames: as many as its pages, and in order of the pages
-pub record ArePages (terms : Terms) (layout : Layout) (left : Left) (need : Need) (frames : List Frame) : Type 0 where
-  pub count : length frames ≡ need.pages
+-- a claim's frames: as many as it says, and in order, as a guest's pages are
+pub record AreTaken (terms : Terms) (layout : Layout) (left : Left) (claim : Claim) (frames : List Frame) : Type 0 where
+  pub count : length frames ≡ claim.frames
   pub new : All (IsNew terms) frames
-  pub placed : (page : ℕ) (frame : Frame) → slice_get frames page ≡ Some frame → frame_of_page layout need left page ≡ Some frame.number.0
+  pub placed : (place : ℕ) (frame : Frame) → slice_get frames place ≡ Some frame → frame_at layout claim.taker left place ≡ Some frame.number.0
 
--- a guest has its frames, and a holder of this table that holds exactly these and a loan for each outside the home cell
-pub record Serves (table : MadeTable) (layout : Layout) (left : Left) (need : Need) (lot : Lot) : Type 0 where
-  pub pages : ArePages table.terms layout left need lot.frames
-  pub holds : lot.holder.view ≡ begun_with (named lot.frames (loans_of layout (home_of layout need) lot.frames))
+-- a claim has its frames, and a holder of this table that holds exactly these and a loan for each outside the home cell
+pub record Serves (table : MadeTable) (layout : Layout) (left : Left) (claim : Claim) (lot : Lot) : Type 0 where
+  pub taken : AreTaken table.terms layout left claim lot.frames
+  pub holds : lot.holder.view ≡ begun_with (named lot.frames (loans_of layout (home_of layout claim.taker) lot.frames))
   pub made : IsMade table lot.holder
 
--- each guest in order has its lot, of what the guests before it left
-abbrev pub ServesAll : MadeTable → Layout → Left → List Need → List Lot → Type 0
+-- each claim in order has its lot, of what the claims before it left
+abbrev pub ServesAll : MadeTable → Layout → Left → List Claim → List Lot → Type 0
 ServesAll table layout left [] [] = ⊤
 ServesAll table layout left [] (lot ∷ lots) = ⊥
-ServesAll table layout left (need ∷ needs) [] = ⊥
-ServesAll table layout left (need ∷ needs) (lot ∷ lots) =
-    Serves table layout left need lot × ServesAll table layout (after_guest layout need left) needs lots
+ServesAll table layout left (claim ∷ claims) [] = ⊥
+ServesAll table layout left (claim ∷ claims) (lot ∷ lots) =
+    Serves table layout left claim lot × ServesAll table layout (after_claim layout claim left) claims lots
 
 -- how often a frame is among the frames of these lots
 abbrev pub times_given : ℕ → List Lot → ℕ

@@ -1,13 +1,13 @@
-//! What is left of the machine while guests are admitted, kept in numbers.
+//! What is left of the machine while claims are admitted, kept in numbers.
 ghost use Rattle.std.specs.Prelude.{◌≡◌, true, ◌*◌, ◌<◌, ◌≤◌, IfSome, length, min};
 ghost use Rattle.node_frames.specs.Places.{AreNodes};
-ghost use Rattle.node_frames.specs.BootOrder.{boot_nodes};
-ghost use Rattle.node_frames.specs.Left.{first_left, has, node_gives, first_giving, taking, after_searches};
-ghost use Rattle.boot_frames.specs.Chain.{home_of};
+ghost use Rattle.node_frames.specs.Left.{first_left, node_gives, first_giving, taking};
+ghost use Rattle.boot_frames.specs.Chain.{after_frames};
+ghost use Rattle.boot_frames.specs.Claims.{order_of, has_of, IsAtHome};
 ghost use Rattle.boot_frames.specs.Counts.{counted_left, AreCounted};
 ghost use Rattle.node_frames.specs.Layout.{layout_of};
 
-use crate::needs::Need;
+use crate::claims::Claim;
 use base_words::{CellId, NodeId, NodeList, Shape};
 use node_frames::searches_take_what_is_left;
 
@@ -32,7 +32,7 @@ impl Counts {
         }
     }
 
-    // Whether the node gives a frame to a guest of this home cell.
+    // Whether the node gives a frame to whom this is the home cell.
     fn gives(&self, shape: &Shape, home: CellId, node: NodeId) -> bool
         requires cells { AreCounted (layout_of shape.now) }
         requires node { node.0 < shape.now.nodes }
@@ -74,25 +74,25 @@ impl Counts {
         }
     }
 
-    /// Takes a frame for each page of a guest by the boot order, until none is left: how many.
-    pub(crate) fn take_pages(&mut self, shape: &Shape, order: &NodeList, need: Need) -> u32
+    /// Takes frames for a claim by its order of nodes, until it has them or none is left: how many.
+    pub(crate) fn take_frames(&mut self, shape: &Shape, order: &NodeList, claim: Claim) -> u32
         requires cells { AreCounted (layout_of shape.now) }
         requires numbered { shape.now.nodes * shape.now.frames < 4294967296 }
-        requires node { need.node.0 < shape.now.nodes }
-        requires order { order.now ≡ boot_nodes (layout_of shape.now) need.node }
+        requires home { IsAtHome (layout_of shape.now) claim.taker }
+        requires order { order.now ≡ order_of (layout_of shape.now) claim.taker }
         requires nodes { AreNodes (layout_of shape.now) order.now }
-        ensures most { result ≡ min need.pages (has (layout_of shape.now) (home_of (layout_of shape.now) need) (counted_left (layout_of shape.now) self.old)) }
+        ensures most { result ≡ min claim.frames (has_of (layout_of shape.now) claim.taker (counted_left (layout_of shape.now) self.old)) }
         ensures left { let left = counted_left (layout_of shape.now) self.old in
-            counted_left (layout_of shape.now) self.new ≡ after_searches (layout_of shape.now) (home_of (layout_of shape.now) need) order.now result left }
+            counted_left (layout_of shape.now) self.new ≡ after_frames (layout_of shape.now) claim.taker result left }
     {
         searches_take_what_is_left();
-        let home = shape.cells.as_slice()[need.node.0 as usize];
-        for taken in 0..need.pages {
+        let home = claim.taker.home(shape);
+        for taken in 0..claim.frames {
             match self.first_giving(shape, home, order) {
                 Some(node) => self.take(shape, home, node),
                 None => return taken,
             }
         }
-        need.pages
+        claim.frames
     }
 }

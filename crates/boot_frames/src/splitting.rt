@@ -1,4 +1,4 @@
-//! A holder for each guest.
+//! A holder for each claim.
 ghost use Rattle.std.specs.Prelude.{◌≡◌, ◌<◌, All, [], IfOk};
 ghost use Rattle.std.specs.List.{AllZip};
 ghost use Rattle.frame_words.specs.Holders.{IsMade};
@@ -17,7 +17,7 @@ use frame_words::{
 };
 use std::alloc::{AllocError, Global};
 
-// A new holder, to which a guest's frames go with their loans.
+// A new holder, to which a claim's frames go with their loans.
 fn split_off(table: &FrameTable, holder: &mut Holder, shape: &Shape, taken: Taken) -> Lot
     requires made { IsMade table.now holder.old }
     requires fits { FitsShape table.now (layout_of shape.now) }
@@ -34,7 +34,7 @@ fn split_off(table: &FrameTable, holder: &mut Holder, shape: &Shape, taken: Take
     Lot { frames, holder }
 }
 
-// The same for each guest in order, until the first holder has nothing left.
+// The same for each claim in order, until the first holder has nothing left.
 pub(crate) fn split_all(
     alloc: Global,
     table: &FrameTable,

@@ -1,7 +1,7 @@
-//! What was taken for a guest.
+//! What was taken for a cell or a guest.
 use base_words::{CellId, FrameList};
 
-/// A guest's frames, and its home cell.
+/// The frames, and the cell whose frames take no loan.
 #[derive(Drop)]
 pub(crate) struct Taken {
     pub(crate) home: CellId,

@@ -1,8 +1,9 @@
 -- One event more, and the counters are those of the rows.
-use Rattle.std.proofs.Common.{◌≡◌, ℕ, ◌+◌, ◌-◌, ◌<◌, cond, eqb, List, length, arith, refl, ap, sym, ◌∙◌, inl, inr, get_or-set_same, get_or-set_other}
-use Rattle.std.proofs.Math.ListN.{length-set}
-use Rattle.std.proofs.lemmas.Bool.{eq-eqb}
+use Rattle.std.proofs.Common.{◌≡◌, ℕ, ◌+◌, ◌-◌, ◌<◌, ◌≤◌, false, cond, eqb, List, [], length, arith, refl, ap, sym, ◌∙◌, inl, inr, get_or-set_same, get_or-set_other}
+use Rattle.std.proofs.Math.ListN.{length-set, get_or-map}
+use Rattle.std.proofs.lemmas.Bool.{eq-eqb, ne_eqb}
 use Rattle.std.proofs.lemmas.Bool.Decides.{eqb_tells}
+use Rattle.std.proofs.lemmas.List.{length-map}
 use Rattle.std.proofs.lemmas.List.Sorted.{sum_by-IsPermutation}
 use Rattle.std.specs.List.Sorted.{IsPermutation}
 use Rattle.base_words.specs.declared.frame.Shape.{Shape}
@@ -10,8 +11,8 @@ use Rattle.base_words.specs.declared.ids.CellId.{CellId}
 use Rattle.base_words.specs.declared.ids.FrameNo.{FrameNo}
 use Rattle.cell_depend.specs.declared.uses.CellCount.{CellCount}
 use Rattle.cell_depend.specs.CellUse.{Rows, lies_in, is_cell}
-use Rattle.cell_depend.specs.Counters.{UsesState, AreCounts, no_use, count_at, with_count, with_frame, without_frame, with_vcpu, without_vcpu}
-use Rattle.cell_depend.specs.Events.{IsCounted, Leaves, Joins}
+use Rattle.cell_depend.specs.Counters.{UsesState, AreCounts, no_use, count_at, with_count, with_frame, without_frame, without_frames, with_vcpu, without_vcpu}
+use Rattle.cell_depend.specs.Events.{IsCounted, IsUncounted, Leaves, Joins}
 use Rattle.cell_depend.proofs.Counting.{count_by-Leaves}
 
 -- the counts of a cell, after those of a cell became others: its own, or another's
@@ -106,6 +107,57 @@ AreCounts-less_vcpu shape rows uses cell rest are counted leaves = record {
   vcpus = λ q within.
       with_vcpus uses cell.0 q _ counted
       ∙ less (λ k. (count_at uses k).vcpus) cell.0 q _ _ (are.vcpus q (among uses cell.0 q _ within)) (count_by-Leaves (is_cell q) cell rows.loaded rest leaves);
+}
+
+-- ---- what stands in no cell that is counted
+
+-- a cell past those that are counted is none of them
+no-cell : (q : ℕ) (cell : CellId) (n : ℕ) → q < n → n ≤ cell.0 → is_cell q cell ≡ false
+no-cell q cell n within past = ne_eqb cell.0 q (λ e. omega (arith, e))
+
+pub AreCounts-frame_elsewhere : (shape : Shape) (rows : Rows) (uses : UsesState) (frame : FrameNo) (cell : CellId) (frames : List FrameNo)
+    → AreCounts shape rows uses → IsUncounted shape uses frame cell → Joins frame rows.frames frames → AreCounts shape (record rows { frames = frames }) uses
+AreCounts-frame_elsewhere shape rows uses frame cell frames are place joins = record {
+  frames = λ q within.
+      let grown = rw (place.lies, no-cell q cell (length uses.counts) within place.uncounted) at (count_by-Leaves (lies_in shape q) frame frames rows.frames joins) in
+      omega (arith, grown, are.frames q within);
+  vcpus = are.vcpus;
+}
+
+pub AreCounts-frame_left_elsewhere : (shape : Shape) (rows : Rows) (uses : UsesState) (frame : FrameNo) (cell : CellId) (rest : List FrameNo)
+    → AreCounts shape rows uses → IsUncounted shape uses frame cell → Leaves frame rows.frames rest → AreCounts shape (record rows { frames = rest }) uses
+AreCounts-frame_left_elsewhere shape rows uses frame cell rest are place leaves = record {
+  frames = λ q within.
+      let left = rw (place.lies, no-cell q cell (length uses.counts) within place.uncounted) at (count_by-Leaves (lies_in shape q) frame rows.frames rest leaves) in
+      omega (arith, left, are.frames q within);
+  vcpus = are.vcpus;
+}
+
+pub AreCounts-vcpu_elsewhere : (shape : Shape) (rows : Rows) (uses : UsesState) (cell : CellId) (loaded : List CellId)
+    → AreCounts shape rows uses → length uses.counts ≤ cell.0 → Joins cell rows.loaded loaded → AreCounts shape (record rows { loaded = loaded }) uses
+AreCounts-vcpu_elsewhere shape rows uses cell loaded are past joins = record {
+  frames = are.frames;
+  vcpus = λ q within.
+      let grown = rw (no-cell q cell (length uses.counts) within past) at (count_by-Leaves (is_cell q) cell loaded rows.loaded joins) in
+      omega (arith, grown, are.vcpus q within);
+}
+
+pub AreCounts-vcpu_left_elsewhere : (shape : Shape) (rows : Rows) (uses : UsesState) (cell : CellId) (rest : List CellId)
+    → AreCounts shape rows uses → length uses.counts ≤ cell.0 → Leaves cell rows.loaded rest → AreCounts shape (record rows { loaded = rest }) uses
+AreCounts-vcpu_left_elsewhere shape rows uses cell rest are past leaves = record {
+  frames = are.frames;
+  vcpus = λ q within.
+      let left = rw (no-cell q cell (length uses.counts) within past) at (count_by-Leaves (is_cell q) cell rows.loaded rest leaves) in
+      omega (arith, left, are.vcpus q within);
+}
+
+-- ---- all frames at once
+
+pub AreCounts-no_frames : (shape : Shape) (rows : Rows) (uses : UsesState) → AreCounts shape rows uses → AreCounts shape (record rows { frames = [] }) (without_frames uses)
+AreCounts-no_frames shape rows uses are = record {
+  frames = λ q within. ap (λ (c : CellCount). c.frames) (get_or-map (λ (c : CellCount). record c { frames = 0 }) uses.counts q no_use);
+  vcpus = λ q within. ap (λ (c : CellCount). c.vcpus) (get_or-map (λ (c : CellCount). record c { frames = 0 }) uses.counts q no_use)
+      ∙ are.vcpus q (omega (arith, within, length-map uses.counts (λ (c : CellCount). record c { frames = 0 })));
 }
 
 -- what leaves was counted

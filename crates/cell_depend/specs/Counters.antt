@@ -1,5 +1,5 @@
 -- The counters of a guest's use of cells, and when they are those of its rows.
-use Rattle.std.specs.Prelude.{◌≡◌, ℕ, ◌+◌, ◌-◌, ◌<◌, List, length, Bool, true, false, replicate, slice_index_or, slice_set}
+use Rattle.std.specs.Prelude.{◌≡◌, ℕ, ◌+◌, ◌-◌, ◌<◌, List, length, map, Bool, true, false, replicate, slice_index_or, slice_set}
 use Rattle.base_words.specs.declared.frame.Shape.{Shape}
 use Rattle.cell_depend.specs.declared.uses.CellCount.{CellCount}
 use Rattle.cell_depend.specs.CellUse.{Rows, frames_in, vcpus_in}
@@ -34,6 +34,10 @@ with_frame uses cell = with_count uses cell (record (count_at uses cell) { frame
 
 abbrev pub without_frame : UsesState → ℕ → UsesState
 without_frame uses cell = with_count uses cell (record (count_at uses cell) { frames = (count_at uses cell).frames - 1 })
+
+-- no frame on the nodes of any cell
+abbrev pub without_frames : UsesState → UsesState
+without_frames uses = record uses { counts = map (λ (count : CellCount). record count { frames = 0 }) uses.counts }
 
 -- one loaded virtual processor more, or less, on the processors of a cell
 abbrev pub with_vcpu : UsesState → ℕ → UsesState

@@ -1,5 +1,5 @@
 -- What changes a guest's use of cells, event by event, in its rows and in its counters.
-use Rattle.std.specs.Prelude.{◌≡◌, ℕ, ◌<◌, List, [], ◌∷◌, ◌++◌, length, Some}
+use Rattle.std.specs.Prelude.{◌≡◌, ℕ, ◌<◌, ◌≤◌, List, [], ◌∷◌, ◌++◌, length, Some}
 use Rattle.base_words.specs.declared.frame.Shape.{Shape}
 use Rattle.base_words.specs.declared.ids.CellId.{CellId}
 use Rattle.base_words.specs.declared.ids.FrameNo.{FrameNo}
@@ -38,6 +38,11 @@ Joins item old new = Leaves item new old
 pub record IsCounted (shape : Shape) (uses : UsesState) (frame : FrameNo) (cell : CellId) : Type 0 where
   pub lies : cell_of shape frame ≡ Some cell
   pub counted : cell.0 < length uses.counts
+
+-- a frame lies on a node of a cell that isn't counted
+pub record IsUncounted (shape : Shape) (uses : UsesState) (frame : FrameNo) (cell : CellId) : Type 0 where
+  pub lies : cell_of shape frame ≡ Some cell
+  pub uncounted : length uses.counts ≤ cell.0
 
 -- a frame is taken
 pub record Takes (shape : Shape) (s : Kept) (frame : FrameNo) (t : Kept) : Type 0 where

@@ -5,8 +5,8 @@ ghost use Rattle.base_words.specs.declared.frame.Shape.{Shape};
 ghost use Rattle.base_words.specs.declared.ids.CellId.{CellId};
 ghost use Rattle.base_words.specs.declared.ids.FrameNo.{FrameNo};
 ghost use Rattle.cell_depend.specs.CellUse.{Rows, IsUsed, frames_in, is_cell, lies_in, one_if, use_from_rows, vcpus_in};
-ghost use Rattle.cell_depend.specs.Counters.{UsesState, AreCounts, count_at, total, with_frame, with_vcpu, without_frame, without_vcpu};
-ghost use Rattle.cell_depend.specs.Events.{UseEvent, Kept, IsCounted, Joins, Leads, Leaves, at_start};
+ghost use Rattle.cell_depend.specs.Counters.{UsesState, AreCounts, count_at, total, with_frame, with_vcpu, without_frame, without_frames, without_vcpu};
+ghost use Rattle.cell_depend.specs.Events.{UseEvent, Kept, IsCounted, IsUncounted, Joins, Leads, Leaves, at_start};
 
 /// Wherever a list of events leads from the start, each counter is the plain count of the rows.
 pub fn counters_equal_rows()
@@ -31,7 +31,7 @@ pub fn vcpus_are_counted()
     ensures few { (cell : ℕ) (loaded : List CellId) → vcpus_in cell loaded ≤ length loaded }
 {}
 
-/// The counters follow a frame that is taken.
+/// The counters follow a frame that is taken; one of a cell that isn't counted is nothing to them.
 pub fn frame_taken()
     ensures behind { (shape : Shape) (rows : Rows) (uses : UsesState) (frame : FrameNo) (cell : CellId)
         → AreCounts shape rows uses → IsCounted shape uses frame cell
@@ -39,9 +39,13 @@ pub fn frame_taken()
     ensures anywhere { (shape : Shape) (rows : Rows) (uses : UsesState) (frame : FrameNo) (cell : CellId) (frames : List FrameNo)
         → AreCounts shape rows uses → IsCounted shape uses frame cell → Joins frame rows.frames frames
         → AreCounts shape (record rows { frames = frames }) (with_frame uses cell.0) }
+    ensures elsewhere { (shape : Shape) (rows : Rows) (uses : UsesState) (frame : FrameNo) (cell : CellId) (frames : List FrameNo)
+        → AreCounts shape rows uses → IsUncounted shape uses frame cell → Joins frame rows.frames frames
+        → AreCounts shape (record rows { frames = frames }) uses }
 {}
 
-/// The counters follow a frame that is given back, wherever it stood; the count of its cell was above 0.
+/// The counters follow a frame that is given back, wherever it stood; the count of its cell was above 0. One of a cell that isn't
+/// counted is nothing to them.
 pub fn frame_given_back()
     ensures some { (shape : Shape) (rows : Rows) (uses : UsesState) (frame : FrameNo) (cell : CellId) (rest : List FrameNo)
         → AreCounts shape rows uses → IsCounted shape uses frame cell → Leaves frame rows.frames rest
@@ -49,9 +53,19 @@ pub fn frame_given_back()
     ensures lowered { (shape : Shape) (rows : Rows) (uses : UsesState) (frame : FrameNo) (cell : CellId) (rest : List FrameNo)
         → AreCounts shape rows uses → IsCounted shape uses frame cell → Leaves frame rows.frames rest
         → AreCounts shape (record rows { frames = rest }) (without_frame uses cell.0) }
+    ensures elsewhere { (shape : Shape) (rows : Rows) (uses : UsesState) (frame : FrameNo) (cell : CellId) (rest : List FrameNo)
+        → AreCounts shape rows uses → IsUncounted shape uses frame cell → Leaves frame rows.frames rest
+        → AreCounts shape (record rows { frames = rest }) uses }
 {}
 
-/// The counters follow a virtual processor that is loaded on a processor of a cell.
+/// The counters follow all frames, which are given back at once.
+pub fn all_frames_given_back()
+    ensures { (shape : Shape) (rows : Rows) (uses : UsesState) → AreCounts shape rows uses
+        → AreCounts shape (record rows { frames = [] }) (without_frames uses) }
+{}
+
+/// The counters follow a virtual processor that is loaded on a processor of a cell; where the cell isn't counted it is nothing to
+/// them.
 pub fn vcpu_loaded()
     ensures behind { (shape : Shape) (rows : Rows) (uses : UsesState) (cell : CellId)
         → AreCounts shape rows uses → cell.0 < length uses.counts
@@ -59,9 +73,13 @@ pub fn vcpu_loaded()
     ensures anywhere { (shape : Shape) (rows : Rows) (uses : UsesState) (cell : CellId) (loaded : List CellId)
         → AreCounts shape rows uses → cell.0 < length uses.counts → Joins cell rows.loaded loaded
         → AreCounts shape (record rows { loaded = loaded }) (with_vcpu uses cell.0) }
+    ensures elsewhere { (shape : Shape) (rows : Rows) (uses : UsesState) (cell : CellId) (loaded : List CellId)
+        → AreCounts shape rows uses → length uses.counts ≤ cell.0 → Joins cell rows.loaded loaded
+        → AreCounts shape (record rows { loaded = loaded }) uses }
 {}
 
-/// The counters follow a virtual processor that is unloaded; the count of its processor's cell was above 0.
+/// The counters follow a virtual processor that is unloaded; the count of its processor's cell was above 0. Where the cell isn't
+/// counted it is nothing to them.
 pub fn vcpu_unloaded()
     ensures some { (shape : Shape) (rows : Rows) (uses : UsesState) (cell : CellId) (rest : List CellId)
         → AreCounts shape rows uses → cell.0 < length uses.counts → Leaves cell rows.loaded rest
@@ -69,6 +87,9 @@ pub fn vcpu_unloaded()
     ensures lowered { (shape : Shape) (rows : Rows) (uses : UsesState) (cell : CellId) (rest : List CellId)
         → AreCounts shape rows uses → cell.0 < length uses.counts → Leaves cell rows.loaded rest
         → AreCounts shape (record rows { loaded = rest }) (without_vcpu uses cell.0) }
+    ensures elsewhere { (shape : Shape) (rows : Rows) (uses : UsesState) (cell : CellId) (rest : List CellId)
+        → AreCounts shape rows uses → length uses.counts ≤ cell.0 → Leaves cell rows.loaded rest
+        → AreCounts shape (record rows { loaded = rest }) uses }
 {}
 
 /// The order in which the rows stand is nothing to the counters.

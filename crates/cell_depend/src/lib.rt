@@ -9,8 +9,8 @@ mod tests;
 mod uses;
 
 pub use law::{
-    counters_equal_rows, frame_given_back, frame_taken, frames_are_counted, rows_reordered,
-    used_where_counted, vcpu_loaded, vcpu_unloaded, vcpus_are_counted,
+    all_frames_given_back, counters_equal_rows, frame_given_back, frame_taken, frames_are_counted,
+    rows_reordered, used_where_counted, vcpu_loaded, vcpu_unloaded, vcpus_are_counted,
 };
 pub use rows::count_from_rows;
 pub use uses::{CellCount, Uses};

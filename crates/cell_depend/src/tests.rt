@@ -75,6 +75,24 @@ fn a_cell_is_used_while_something_of_it_is_kept(rt: HostRuntime) -> Result<(), F
 }
 
 #[test]
+fn all_frames_leave_at_once(rt: HostRuntime) -> Result<(), Fail> {
+    let mut uses = Uses::new(rt.alloc(), 3)?;
+    uses.add_frame(CellId(0));
+    uses.add_frame(CellId(0));
+    uses.add_frame(CellId(1));
+    uses.add_vcpu(CellId(1));
+    uses.drop_frames();
+    for (cell, used) in [(0u8, false), (1, true), (2, false)] {
+        assert_eq!(rt; uses.uses(CellId(cell)), used, "cell {cell}");
+    }
+    uses.add_frame(CellId(0));
+    assert!(rt; uses.uses(CellId(0)), "one is taken again");
+    uses.drop_frame(CellId(0));
+    assert!(rt; !uses.uses(CellId(0)), "and was the only one");
+    Ok(())
+}
+
+#[test]
 fn a_cell_that_failed_stays_so(rt: HostRuntime) -> Result<(), Fail> {
     let mut uses = Uses::new(rt.alloc(), 4)?;
     assert!(rt; uses.dead().is_empty());

@@ -1,7 +1,7 @@
 //! Counters that are kept as frames are taken and given back, and virtual processors loaded and unloaded.
 ghost use Rattle.std.specs.Prelude.{◌≡◌, ◌≢◌, ◌<◌, ◌≤◌, ◌-◌, ◌^◌, ◌↔◌, IfOk, IsTrue, length};
 ghost use Rattle.base_words.specs.Membership.{IsMember};
-ghost use Rattle.cell_depend.specs.Counters.{count_at, total, unused, with_dead, with_frame, with_vcpu, without_frame, without_vcpu};
+ghost use Rattle.cell_depend.specs.Counters.{count_at, total, unused, with_dead, with_frame, with_vcpu, without_frame, without_frames, without_vcpu};
 
 use base_words::{CellId, CellSet};
 use std::alloc::{AllocError, Global};
@@ -65,6 +65,15 @@ impl Uses {
         ensures { self.new ≡ without_frame self.old cell.0 }
     {
         self.counts[cell.0 as usize].frames -= 1;
+    }
+
+    /// All frames were given back.
+    pub fn drop_frames(&mut self)
+        ensures { self.new ≡ without_frames self.old }
+    {
+        for count in self.counts.iter_mut() {
+            count.frames = 0;
+        }
     }
 
     /// A virtual processor was loaded on a processor of a cell.

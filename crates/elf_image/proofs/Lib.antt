@@ -1,5 +1,6 @@
 pub mod NoFault
 pub mod Overlaps
+pub mod Apart
 pub mod Lists
 pub mod ByteOf
 pub mod Copies

@@ -1,5 +1,6 @@
 pub mod Fields
 pub mod Segments
+pub mod Spans
 pub mod FirstFault
 pub mod Checks
 pub mod Physical

@@ -23,7 +23,7 @@ pub fn load(alloc: Global, bytes: &[u8], pages: u32) -> Result<Image, ImageFault
     let header = ElfHeader::read(bytes)?;
     header.check(bytes.len())?;
     let headers = segments::read_headers(alloc, bytes, &header)?;
-    segments::check(&headers, bytes.len(), pages)?;
+    segments::check(alloc, &headers, bytes.len(), pages)?;
     header.check_entry(pages)?;
     Ok(Image {
         entry: header.e_entry,

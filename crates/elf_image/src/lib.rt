@@ -6,6 +6,7 @@ mod fault;
 mod filling;
 mod header;
 mod image;
+mod overlapping;
 mod segment;
 mod segments;
 

@@ -2,6 +2,7 @@
 ghost use Rattle.std.specs.Prelude.{◌≡◌, ◌+◌, ◌≤◌, length};
 ghost use Rattle.elf_image.specs.Fields.{program_header_at};
 ghost use Rattle.elf_image.specs.Segments.{memory_end, is_interpreter, is_cut, is_outside, shares_byte};
+ghost use Rattle.elf_image.specs.Spans.{span_of};
 
 use base_words::{PAGE_SIZE, read_word};
 
@@ -36,6 +37,13 @@ pub enum ProgramHeader {
     Load(LoadSegment),
     Interpreter,
     Other,
+}
+
+/// The virtual address where something begins in memory, and the one behind its last byte.
+#[derive(Clone, Copy, Debug)]
+pub struct Span {
+    pub start: u64,
+    pub end: u64,
 }
 
 impl LoadSegment {
@@ -102,6 +110,19 @@ impl ProgramHeader {
                 s.p_memsz > 0 && (s.p_vaddr < MEMORY_START || s.vaddr_end() > memory_end(pages))
             }
             ProgramHeader::Interpreter | ProgramHeader::Other => false,
+        }
+    }
+
+    /// Where its segment lies in memory, if it has bytes there.
+    pub fn span(&self) -> Option<Span>
+        ensures { result ≡ span_of self.now }
+    {
+        match self {
+            ProgramHeader::Load(s) if s.p_memsz > 0 => Some(Span {
+                start: s.p_vaddr as u64,
+                end: s.vaddr_end(),
+            }),
+            _ => None,
         }
     }
 

@@ -2,12 +2,13 @@
 ghost use Rattle.std.specs.Prelude.{◌≡◌, ◌+◌, ◌*◌, ◌<◌, ◌≤◌, ◌^◌, length, IfOk, IfSome, position};
 ghost use Rattle.std.specs.List.{list_any};
 ghost use Rattle.elf_image.specs.Fields.{program_headers_of};
-ghost use Rattle.elf_image.specs.Segments.{is_interpreter, is_cut, is_outside, shares_byte};
-ghost use Rattle.elf_image.specs.FirstFault.{interp, segment, place, overlap};
+ghost use Rattle.elf_image.specs.Segments.{is_interpreter, is_cut, is_outside};
+ghost use Rattle.elf_image.specs.FirstFault.{interp, segment, place};
 ghost use Rattle.elf_image.specs.Checks.{Finds, segments_fault};
 
 use crate::ImageFault;
 use crate::header::{ElfHeader, PROGRAM_HEADER_SIZE};
+use crate::overlapping::check_overlaps;
 use crate::segment::ProgramHeader;
 use std::alloc::{AllocError, Global};
 
@@ -31,14 +32,19 @@ pub fn read_headers(
 
 /// Refuses an interpreter, a segment that is cut or lies outside the memory, and two that share a byte.
 #[tactic(auto, unfolding(crate::specs::Checks::segments_fault))]
-pub fn check(headers: &[ProgramHeader], file_length: usize, pages: u32) -> Result<(), ImageFault>
+pub fn check(
+    alloc: Global,
+    headers: &[ProgramHeader],
+    file_length: usize,
+    pages: u32,
+) -> Result<(), ImageFault>
     requires { length headers.now < 2 ^ 32 }
     ensures { Finds (segments_fault headers.now file_length pages) result }
 {
     check_interpreter(headers)?;
     check_segments(headers, file_length)?;
     check_places(headers, pages)?;
-    check_overlaps(headers)
+    check_overlaps(alloc, headers)
 }
 
 fn check_interpreter(headers: &[ProgramHeader]) -> Result<(), ImageFault>
@@ -70,19 +76,6 @@ fn check_places(headers: &[ProgramHeader], pages: u32) -> Result<(), ImageFault>
     }
 }
 
-fn check_overlaps(headers: &[ProgramHeader]) -> Result<(), ImageFault>
-    requires { length headers.now < 2 ^ 32 }
-    ensures { Finds (overlap headers.now) result }
-{
-    for (number, header) in headers.iter().enumerate() {
-        let later = &headers[number + 1..];
-        if let Some(between) = first_sharing(header, later) {
-            return Err(ImageFault::Overlap(number as u32, (number + 1 + between) as u32));
-        }
-    }
-    Ok(())
-}
-
 fn has_interpreter(headers: &[ProgramHeader]) -> bool
     ensures { result ≡ list_any is_interpreter headers.now }
 {
@@ -103,12 +96,4 @@ fn first_outside(headers: &[ProgramHeader], pages: u32) -> Option<usize>
     ensures within { IfSome result (λ number. number < length headers.now) }
 {
     headers.iter().position(|header| header.is_outside(pages))
-}
-
-/// The number of the first of the later segments that shares a byte with this one.
-fn first_sharing(header: &ProgramHeader, later: &[ProgramHeader]) -> Option<usize>
-    ensures first { result ≡ position (shares_byte header.now) later.now }
-    ensures within { IfSome result (λ number. number < length later.now) }
-{
-    later.iter().position(|other| header.shares_byte(other))
 }

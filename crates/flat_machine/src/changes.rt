@@ -11,6 +11,7 @@ ghost use Rattle.flat_machine.specs.FlatView.{machine_of, IsSound};
 use crate::machine::Machine;
 use crate::memory::{set_word_around, word_around};
 use base_words::{Cp0Op, Exception, Register, VcpuId};
+use mips_retire::shown_stays;
 use private_machine::{Vcpu, unlink_others};
 
 impl Machine {
@@ -88,6 +89,7 @@ impl Machine {
         ensures ready { self.new.ready ≡ self.old.ready }
         ensures written { machine_of self.new ≡ on_vcpu (machine_of self.old) vcpu.0 (λ c. with_cp0 (writes c.cp0 (register_at number) value) (with_registers (advanced c.registers) c)) }
     {
+        shown_stays();
         mips_retire::write_cp0(&mut self.vcpus[vcpu.0 as usize], number, value);
     }
 
@@ -99,6 +101,7 @@ impl Machine {
         ensures ready { self.new.ready ≡ self.old.ready }
         ensures done { machine_of self.new ≡ on_vcpu (machine_of self.old) vcpu.0 (λ c. system_done op (with_registers (passed_system op c.registers) c)) }
     {
+        shown_stays();
         mips_retire::do_system(&mut self.vcpus[vcpu.0 as usize], op);
     }
 
@@ -110,6 +113,7 @@ impl Machine {
         ensures ready { self.new.ready ≡ self.old.ready }
         ensures raised { machine_of self.new ≡ on_vcpu (machine_of self.old) vcpu.0 (raising exception) }
     {
+        shown_stays();
         self.vcpus[vcpu.0 as usize].raise(exception);
     }
 
@@ -122,6 +126,7 @@ impl Machine {
         ensures ready { self.new.ready ≡ self.old.ready }
         ensures ticked { machine_of self.new ≡ on_vcpu (machine_of self.old) vcpu.0 ticking }
     {
+        shown_stays();
         self.vcpus[vcpu.0 as usize].tick();
     }
 

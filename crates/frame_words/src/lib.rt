@@ -23,7 +23,10 @@ pub use answers::{Borrow, Share, Took};
 pub use crossing::cross_threads;
 pub use frames::{give_back, share, take};
 pub use holder::Holder;
-pub use law::{named_holds_are_frames_and_loans, no_frame_and_no_loan_is_no_hold};
+pub use law::{
+    a_refused_share_is_the_first_look, named_holds_are_frames_and_loans,
+    no_frame_and_no_loan_is_no_hold,
+};
 pub use loans::{borrow, repay};
 pub use seats::{join, split};
 pub use table::{FrameTable, close};

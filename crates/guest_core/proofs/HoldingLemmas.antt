@@ -24,7 +24,7 @@ use Rattle.guest_core.specs.Holding.{is_copy, frames_around, IsHolding, HasFrame
 
 -- ---- over an entry that takes and gives no frame
 
-same-count : (s t : GuestState) → Exchanged s t [] [] → (test : ℕ → ℕ → Bool) → count_of test (held t) ≡ count_of test (held s)
+pub same-count : (s t : GuestState) → Exchanged s t [] [] → (test : ℕ → ℕ → Bool) → count_of test (held t) ≡ count_of test (held s)
 same-count s t ex test = let none : count_of test [] ≡ 0 = refl in omega (arith, none, ex.balance test)
 
 -- the loans of a cell, counted in these surroundings

@@ -10,3 +10,6 @@ pub mod RoomLemmas
 pub mod EnterProofs
 pub mod WiringProofs
 pub mod HandProofs
+pub mod LoadedCells
+pub mod UsingProofs
+pub mod UseTells

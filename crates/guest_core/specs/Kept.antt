@@ -12,6 +12,7 @@ use Rattle.guest_core.specs.declared.parts.Parts.{Parts}
 use Rattle.guest_core.specs.GuestView.{loaded_count}
 use Rattle.guest_core.specs.Holding.{HasFrames}
 use Rattle.guest_core.specs.Noting.{IsNoted}
+use Rattle.guest_core.specs.Using.{AreUses}
 use Rattle.guest_core.specs.Wiring.{IsWired, Posted}
 
 -- The journal is a run from the guest's start to its state, and the seat's notes are in step with both. No choice of a policy is due, as
@@ -24,14 +25,15 @@ pub record Kept (b : Boot) (s : GuestState) (journal : List Event) (notes : List
   pub processors : length s.processors ≡ length b.around.processors
   pub vcpus : length s.vcpus ≡ b.vcpus
 
--- A guest whose virtual processors have all halted has ended. Its holder holds what it holds. The journal has room for each
--- unload. Its ends of the wires tell what it sent and took.
+-- A guest whose virtual processors have all halted has ended. Its holder holds what it holds, and its counters are those of the cells
+-- that it uses. The journal has room for each unload. Its ends of the wires tell what it sent and took.
 pub record IsKept (g : Parts) : Type 0 where
   pub sound : IsSound g.course
   pub seat : g.seat.number ≡ g.number.0
   pub kept : Kept g.start (state_of g.course) g.journal.entries g.seat.notes
   pub goes_on : g.course.ended ≡ None → GoesOn (state_of g.course)
   pub frames : HasFrames (state_of g.course) g.holder.view
+  pub used : AreUses (state_of g.course) g.uses
   pub at_home : g.start.around.home < length g.start.around.nodes
   pub no_policy : (g.start.around.policy.migrate ≡ 0) × (g.start.around.policy.replicate ≡ 0)
   pub unloads : loaded_count (state_of g.course) ≤ g.journal.room

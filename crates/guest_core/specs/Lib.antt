@@ -1,5 +1,6 @@
 pub mod Starting
 pub mod Holding
+pub mod Using
 pub mod Wiring
 pub mod GuestView
 pub mod Noting

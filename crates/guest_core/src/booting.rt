@@ -11,6 +11,7 @@ ghost use Rattle.guest_course.specs.CourseView.{surroundings};
 
 use crate::parts::Parts;
 use crate::start::Start;
+use crate::using::count_frames;
 use crate::wiring::Wiring;
 use base_words::{Frame, FrameList, GuestId, InputList, PageList};
 use cow_disk::Disk;
@@ -71,6 +72,7 @@ impl Parts {
         run_grows();
         let start = Start::of(&around, &image, vcpus, &frames, &disk, input);
         let Image { entry, pages } = image;
+        let uses = count_frames(alloc, &frames, &around.site.shape)?;
         let frames = fill(alloc, &frames, pages)?;
         let number: GuestId = seat.number();
         Ok(Parts {
@@ -78,6 +80,7 @@ impl Parts {
             start,
             course: Course::boot(alloc, around, entry, vcpus, frames, disk, input)?,
             holder,
+            uses,
             journal: Journal::new(alloc),
             seat,
             wiring: Wiring::of(wires, passes),

@@ -38,6 +38,7 @@ impl Parts {
         close(
             &mut self.course,
             &mut self.holder,
+            &mut self.uses,
             resources.table,
             End::Budget,
         );
@@ -60,6 +61,7 @@ impl Parts {
             start: _,
             course,
             holder,
+            uses: _,
             journal,
             seat,
             wiring,

@@ -5,6 +5,7 @@ ghost use Rattle.base_words.specs.declared.events.Event.TheVariants.{Unload, End
 ghost use Rattle.base_words.specs.declared.events.End.TheVariants.{Budget};
 ghost use Rattle.shootdown.specs.declared.notes.Note.TheVariants.{Made};
 ghost use Rattle.shootdown.specs.Notes.{with_side};
+ghost use Rattle.isolation_law.specs.CellUse.{uses as uses_cell};
 ghost use Rattle.isolation_law.specs.EndRows.{Ends};
 ghost use Rattle.isolation_law.specs.GuestState.{processor as processor_at};
 ghost use Rattle.guest_core.specs.Starting.{booted_with, MayStart};
@@ -21,7 +22,7 @@ ghost use Rattle.wire_queue.specs.PassLists.{IsUnused};
 
 use crate::parts::Parts;
 use crate::{GuestRecord, Loaded, Packeted, Resources, Turn};
-use base_words::{End, FrameList, InputList, VcpuId};
+use base_words::{CellId, End, FrameList, InputList, VcpuId};
 use cow_disk::Disk;
 use elf_image::Image;
 use frame_words::Holder;
@@ -90,6 +91,16 @@ impl Guest {
         ensures frames { HasFrames self.now.state self.now.view }
     {
         self.parts.course.ended
+    }
+
+    /// Whether the guest uses a cell: it holds a frame that lies on a node of the cell, or a virtual processor of it is loaded on a
+    /// processor of the cell. A guest that has ended uses none, though something may be loaded still. It counts nothing anew.
+    #[inline]
+    pub fn uses(&self, cell: CellId) -> bool
+        requires { cell.0 < 4 }
+        ensures { result ≡ uses_cell self.now.state cell.0 }
+    {
+        self.parts.uses(cell)
     }
 
     /// Makes room for one further call. A refusal changes nothing but what room there is.

@@ -15,6 +15,7 @@ mod releasing;
 mod resources;
 mod start;
 mod turning;
+mod using;
 mod wiring;
 
 pub use answers::{Loaded, Packeted, Turn};

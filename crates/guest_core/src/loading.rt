@@ -10,6 +10,7 @@ ghost use Rattle.guest_core.specs.GuestCalls.{Makes, Learns, LoadsVcpu, told_of_
 
 use crate::Loaded;
 use crate::parts::Parts;
+use crate::using::{count_load, count_unload};
 use base_words::{Event, ProcId, VcpuId};
 use isolation_law::{exchanges, halts_stay, row_keeps, run_grows, takes};
 use shootdown::{Note, ProcToken, note};
@@ -44,6 +45,7 @@ impl Parts {
         if let Some(other) = self.course.processor_with(vcpu) {
             return Loaded::On(other);
         }
+        count_load(&mut self.uses, &self.course, processor);
         self.course.load(processor, vcpu);
         let entry = Event::Load(processor, vcpu);
         self.journal.push(entry);
@@ -70,6 +72,7 @@ impl Parts {
         run_grows();
         takes();
         let processor = token.number();
+        count_unload(&mut self.uses, &self.course, processor);
         self.course.unload(processor);
         let entry = Event::Unload(processor);
         self.journal.push(entry);

@@ -6,8 +6,10 @@ ghost use Rattle.guest_course.specs.CourseView.{state_of};
 ghost use Rattle.guest_course.specs.CourseRules.{IsSound};
 ghost use Rattle.guest_course.specs.EndCalls.{GaveUp};
 ghost use Rattle.guest_core.specs.Holding.{IsHolding, HasFrames, FitsAround};
+ghost use Rattle.guest_core.specs.Using.{AreUses};
 
 use base_words::{CellId, End};
+use cell_depend::{Uses, all_frames_given_back};
 use frame_words::{FrameTable, Holder, no_frame_and_no_loan_is_no_hold};
 use guest_course::{Around, Course};
 use node_frames::release;
@@ -37,22 +39,32 @@ fn release_all(course: &mut Course, holder: &mut Holder, table: &FrameTable)
     }
 }
 
-/// Ends a guest, which gives all frames back.
-pub(crate) fn close(course: &mut Course, holder: &mut Holder, table: &FrameTable, end: End)
+/// Ends a guest, which gives all frames back. What is loaded stays, and is counted on.
+pub(crate) fn close(
+    course: &mut Course,
+    holder: &mut Holder,
+    uses: &mut Uses,
+    table: &FrameTable,
+    end: End,
+)
     requires sound { IsSound course.old }
     requires may { MayEnd (state_of course.old) end }
     requires made { IsMade table.now holder.old }
     requires fits { FitsAround table.now (state_of course.old).around }
     requires at_home { (state_of course.old).around.home < length (state_of course.old).around.nodes }
     requires holding { IsHolding (state_of course.old) holder.old.view }
+    requires used { AreUses (state_of course.old) uses.old }
     ensures sound { IsSound course.new }
     ensures ends { Ends (state_of course.old) end (state_of course.new) }
     ensures frames { HasFrames (state_of course.new) holder.new.view }
+    ensures used { AreUses (state_of course.new) uses.new }
     ensures devs { course.new.devs ≡ course.old.devs }
     ensures cells { course.new.sent_from ≡ course.old.sent_from }
     ensures received { course.new.received ≡ course.old.received }
     ensures same { holder.new.table ≡ holder.old.table }
 {
+    all_frames_given_back();
     release_all(course, holder, table);
+    uses.drop_frames();
     course.end(end);
 }

@@ -11,12 +11,14 @@ ghost use Rattle.guest_core.specs.GuestView.{guest_of, IsSameGuest, IsTableOf};
 ghost use Rattle.guest_core.specs.Kept.{IsKept};
 ghost use Rattle.guest_core.specs.GuestCalls.{Learns, MayNote, processor_of, loaded_on, step_entries, Turns, told_of_turn};
 ghost use Rattle.guest_core.specs.TurnParts.{Concludes, MayRun};
+ghost use Rattle.guest_core.specs.Using.{AreUses};
 
 use crate::advancing::{Advanced, advance};
 use crate::parts::Parts;
 use crate::releasing::close;
 use crate::{Resources, Turn};
 use base_words::{End, Event, ProcId, VcpuId};
+use cell_depend::Uses;
 use event_journal::Journal;
 use frame_words::{FrameTable, Holder};
 use guest_course::Course;
@@ -29,6 +31,7 @@ use std::sync::Wait;
 fn conclude(
     course: &mut Course,
     holder: &mut Holder,
+    uses: &mut Uses,
     table: &FrameTable,
     journal: &mut Journal,
     processor: ProcId,
@@ -39,6 +42,7 @@ fn conclude(
     requires fits { FitsAround table.now (state_of course.old).around }
     requires at_home { (state_of course.old).around.home < length (state_of course.old).around.nodes }
     requires frames { HasFrames (state_of course.old) holder.old.view }
+    requires used { AreUses (state_of course.old) uses.old }
     requires goes_on { course.old.ended ≡ None }
     requires room { 2 ≤ journal.old.room }
     ensures sound { IsSound course.new }
@@ -46,6 +50,7 @@ fn conclude(
     ensures entries { journal.new.entries ≡ journal.old.entries ++ step_entries processor vcpu (all_halted course.old.vcpus.items) }
     ensures room { journal.old.room ≤ journal.new.room + 2 }
     ensures frames { HasFrames (state_of course.new) holder.new.view }
+    ensures used { AreUses (state_of course.new) uses.new }
     ensures devs { course.new.devs ≡ course.old.devs }
     ensures cells { course.new.sent_from ≡ course.old.sent_from }
     ensures received { course.new.received ≡ course.old.received }
@@ -53,7 +58,7 @@ fn conclude(
 {
     journal.push(Event::Emulate(processor, vcpu));
     if course.has_halted() {
-        close(course, holder, table, End::Halted);
+        close(course, holder, uses, table, End::Halted);
         journal.push(Event::End(End::Halted));
     }
 }
@@ -103,6 +108,7 @@ impl Parts {
                 conclude(
                     &mut self.course,
                     &mut self.holder,
+                    &mut self.uses,
                     resources.table,
                     &mut self.journal,
                     processor,

@@ -8,6 +8,7 @@ fn operations_on_registers(rt: HostRuntime) {
     let rows = [
         (AluOp::Add, 0x7FFF_FFFE, 1, Some(0x7FFF_FFFF)),
         (AluOp::Add, 0xFFFF_FFFF, 0xFFFF_FFFF, Some(0xFFFF_FFFE)),
+        (AluOp::Add, 0x7FFF_FFFF, 0xFFFF_FFFF, Some(0x7FFF_FFFE)),
         (AluOp::Add, 0x7FFF_FFFF, 1, None),
         (AluOp::Add, 0x8000_0000, 0xFFFF_FFFF, None),
         (AluOp::Add, 0x8000_0000, 0x8000_0000, None),
@@ -183,6 +184,7 @@ fn products_and_quotients(rt: HostRuntime) {
         (MulOp::Divide, 7, 0xFFFF_FFFE, 1, 0xFFFF_FFFD),
         (MulOp::Divide, 0xFFFF_FFF9, 0xFFFF_FFFE, 0xFFFF_FFFF, 3),
         (MulOp::Divide, 0x8000_0000, 0xFFFF_FFFF, 0, 0x8000_0000),
+        (MulOp::Divide, 5, 0, 5, 0xFFFF_FFFF),
         (MulOp::Divide, 0xFFFF_FFFB, 0, 0xFFFF_FFFB, 0xFFFF_FFFF),
         (MulOp::DivideUnsigned, 0xFFFF_FFF9, 2, 1, 0x7FFF_FFFC),
         (

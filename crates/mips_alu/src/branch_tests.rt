@@ -1,6 +1,6 @@
 //! Jumps and branches, with targets worked out by hand from the manual's descriptions.
-use crate::rig::{AFTER, HERE, Outcome, holding, leads, outcome, r, raises, skips};
-use base_words::{Cond, Exception, Instr, JumpIndex, Regs, Request, Untaken};
+use crate::rig::{AFTER, HERE, Outcome, holding, leads, outcome, r, skips, with_register};
+use base_words::{Cond, Instr, JumpIndex, Regs, Request, Untaken};
 
 /// The offsets 3 and -2, and the addresses to which they lead.
 const AHEAD: (u16, u32) = (0x0003, 0x0040_0110);
@@ -216,65 +216,22 @@ fn jumps_by_an_index(rt: HostRuntime) {
 #[test]
 fn jumps_by_a_register(rt: HostRuntime) {
     let before = holding(0x8000_1234, 0x8000_1232);
-    let jump = Instr::JumpRegister { rs: r(1) };
-    assert_eq!(rt; outcome(jump, before), leads(before, 0x8000_1234));
-    let jump = Instr::JumpRegister { rs: r(2) };
-    assert_eq!(rt; outcome(jump, before), leads(before, 0x8000_1232));
-    let call = Instr::JumpAndLinkRegister {
-        rs: r(1),
-        rd: r(31),
-    };
-    let mut linked = before;
-    linked.general[31] = AFTER;
-    assert_eq!(rt; outcome(call, before), leads(linked, 0x8000_1234));
-    let call = Instr::JumpAndLinkRegister { rs: r(1), rd: r(5) };
-    linked = before;
-    linked.general[5] = AFTER;
-    assert_eq!(rt; outcome(call, before), leads(linked, 0x8000_1234));
-    let call = Instr::JumpAndLinkRegister { rs: r(1), rd: r(1) };
-    linked = before;
-    linked.general[1] = AFTER;
-    assert_eq!(rt; outcome(call, before), leads(linked, 0x8000_1234));
-    let call = Instr::JumpAndLinkRegister { rs: r(1), rd: r(0) };
-    assert_eq!(rt; outcome(call, before), leads(before, 0x8000_1234));
-}
-
-/// The manual leaves open what a jump or a branch does in a delay slot: here it is reserved, and nothing is linked.
-#[test]
-fn jumps_and_branches_in_a_delay_slot(rt: HostRuntime) {
-    let mut before = holding(0x8000_1234, 0);
-    before.slot = Some(0x8000_0000);
-    let index = JumpIndex::new(4);
-    let rows = [
-        Instr::JumpRegister { rs: r(1) },
-        Instr::JumpAndLinkRegister {
-            rs: r(1),
-            rd: r(31),
-        },
-        Instr::Jump { index },
-        Instr::JumpAndLink { index },
-        Instr::BranchZero {
-            cond: Cond::Less,
-            untaken: Untaken::PastSlot,
-            rs: r(1),
-            offset: 3,
-        },
-        Instr::BranchZeroAndLink {
-            cond: Cond::Less,
-            untaken: Untaken::Slot,
-            rs: r(1),
-            offset: 3,
-        },
-        Instr::Branch {
-            cond: Cond::Equal,
-            untaken: Untaken::Slot,
-            rs: r(1),
-            rt: r(2),
-            offset: 3,
-        },
-    ];
-    for instr in rows {
-        let want = raises(before, Exception::ReservedInstruction);
-        assert_eq!(rt; outcome(instr, before), want, "{instr:?}");
+    for (rs, target) in [(r(1), 0x8000_1234), (r(2), 0x8000_1232)] {
+        let jump = Instr::JumpRegister { rs };
+        assert_eq!(rt;
+            outcome(jump, before),
+            leads(before, target),
+            "JR to {target}"
+        );
+    }
+    for (rd, linked) in [
+        (r(31), with_register(before, 31, AFTER)),
+        (r(5), with_register(before, 5, AFTER)),
+        (r(1), with_register(before, 1, AFTER)),
+        (r(0), before),
+    ] {
+        let call = Instr::JumpAndLinkRegister { rs: r(1), rd };
+        let want = leads(linked, 0x8000_1234);
+        assert_eq!(rt; outcome(call, before), want, "JALR {rd:?}, 1");
     }
 }

@@ -22,10 +22,10 @@ mod arithmetic_tests;
 #[cfg(test)]
 mod branch_tests;
 #[cfg(test)]
+mod delay_slot_tests;
+#[cfg(test)]
 mod memory_tests;
 #[cfg(test)]
 mod rig;
-#[cfg(test)]
-mod tests;
 #[cfg(test)]
 mod trap_tests;

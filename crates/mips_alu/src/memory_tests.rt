@@ -9,6 +9,36 @@ const WORD: u32 = 0x8172_73F4;
 /// The register, as it was before.
 const REGISTER: u32 = 0xAABB_CCDD;
 
+/// A base, an offset, which extends its sign, and the address that they give.
+const ADDRESSES: [(u32, u16, u32); 6] = [
+    (0x0000_1000, 0x0000, 0x0000_1000),
+    (0x0000_1000, 0x7FFF, 0x0000_8FFF),
+    (0x0000_1000, 0xFFFC, 0x0000_0FFC),
+    (0x8000_0000, 0x8000, 0x7FFF_8000),
+    (0xFFFF_FFFF, 0x0001, 0x0000_0000),
+    (0x0000_0000, 0xFFFF, 0xFFFF_FFFF),
+];
+
+/// LB, LH, LWL, LW, LBU, LHU and LWR.
+const LOADS: [LoadKind; 7] = [
+    LoadKind::Byte,
+    LoadKind::HalfWord,
+    LoadKind::WordLeft,
+    LoadKind::Word,
+    LoadKind::ByteUnsigned,
+    LoadKind::HalfWordUnsigned,
+    LoadKind::WordRight,
+];
+
+/// SB, SH, SWL, SW and SWR.
+const STORES: [StoreKind; 5] = [
+    StoreKind::Byte,
+    StoreKind::HalfWord,
+    StoreKind::WordLeft,
+    StoreKind::Word,
+    StoreKind::WordRight,
+];
+
 /// What a load of a byte's address gives; none where the address isn't aligned.
 fn loaded(kind: LoadKind, byte: u32) -> Option<u32> {
     if byte < 4 && byte % load_unit(kind) == 0 {
@@ -107,29 +137,12 @@ fn a_word_across_two(rt: HostRuntime) {
     assert_eq!(rt; (first, second), (0x00AA_BBCC, 0xDD55_6677));
 }
 
-/// Register 1 is the base, and register 2 what is loaded or stored. The offset extends its sign, and an address that isn't aligned
-/// is asked for as it is.
+/// Register 1 is the base, and register 2 what is loaded. An address that isn't aligned is asked for as it is.
 #[test]
-fn what_is_asked_of_memory(rt: HostRuntime) {
-    let rows = [
-        (0x0000_1000, 0x0000, 0x0000_1000),
-        (0x0000_1000, 0x7FFF, 0x0000_8FFF),
-        (0x0000_1000, 0xFFFC, 0x0000_0FFC),
-        (0x8000_0000, 0x8000, 0x7FFF_8000),
-        (0xFFFF_FFFF, 0x0001, 0x0000_0000),
-        (0x0000_0000, 0xFFFF, 0xFFFF_FFFF),
-    ];
-    for (base, offset, address) in rows {
+fn what_loads_ask_for(rt: HostRuntime) {
+    for (base, offset, address) in ADDRESSES {
         let before = holding(base, REGISTER);
-        for kind in [
-            LoadKind::Byte,
-            LoadKind::HalfWord,
-            LoadKind::WordLeft,
-            LoadKind::Word,
-            LoadKind::ByteUnsigned,
-            LoadKind::HalfWordUnsigned,
-            LoadKind::WordRight,
-        ] {
+        for kind in LOADS {
             let instr = Instr::Load {
                 kind,
                 base: r(1),
@@ -141,19 +154,18 @@ fn what_is_asked_of_memory(rt: HostRuntime) {
                 address,
                 target: r(2),
             };
-            assert_eq!(rt;
-                outcome(instr, before),
-                asks(before, asked),
-                "{kind:?} at {address}"
-            );
+            let want = asks(before, asked);
+            assert_eq!(rt; outcome(instr, before), want, "{kind:?} at {address}");
         }
-        for kind in [
-            StoreKind::Byte,
-            StoreKind::HalfWord,
-            StoreKind::WordLeft,
-            StoreKind::Word,
-            StoreKind::WordRight,
-        ] {
+    }
+}
+
+/// Register 1 is the base, and register 2 what is stored.
+#[test]
+fn what_stores_ask_for(rt: HostRuntime) {
+    for (base, offset, address) in ADDRESSES {
+        let before = holding(base, REGISTER);
+        for kind in STORES {
             let instr = Instr::Store {
                 kind,
                 base: r(1),
@@ -165,40 +177,36 @@ fn what_is_asked_of_memory(rt: HostRuntime) {
                 address,
                 value: REGISTER,
             };
-            assert_eq!(rt;
-                outcome(instr, before),
-                asks(before, asked),
-                "{kind:?} at {address}"
-            );
+            let want = asks(before, asked);
+            assert_eq!(rt; outcome(instr, before), want, "{kind:?} at {address}");
         }
-        let instr = Instr::LoadLinked {
-            base: r(1),
-            rt: r(2),
+    }
+}
+
+/// LL, and SC, whose register is what is stored and where its success is told.
+#[test]
+fn what_ll_and_sc_ask_for(rt: HostRuntime) {
+    for (base, offset, address) in ADDRESSES {
+        let before = holding(base, REGISTER);
+        let (base, rt_of, target) = (r(1), r(2), r(2));
+        let linked = Instr::LoadLinked {
+            base,
+            rt: rt_of,
             offset,
         };
-        let asked = Request::LoadLinked {
-            address,
-            target: r(2),
-        };
-        assert_eq!(rt;
-            outcome(instr, before),
-            asks(before, asked),
-            "LL at {address}"
-        );
-        let instr = Instr::StoreConditional {
-            base: r(1),
-            rt: r(2),
+        let want = asks(before, Request::LoadLinked { address, target });
+        assert_eq!(rt; outcome(linked, before), want, "LL at {address}");
+        let conditional = Instr::StoreConditional {
+            base,
+            rt: rt_of,
             offset,
         };
         let asked = Request::StoreConditional {
             address,
             value: REGISTER,
-            target: r(2),
+            target,
         };
-        assert_eq!(rt;
-            outcome(instr, before),
-            asks(before, asked),
-            "SC at {address}"
-        );
+        let want = asks(before, asked);
+        assert_eq!(rt; outcome(conditional, before), want, "SC at {address}");
     }
 }

@@ -50,13 +50,20 @@ pub fn passes(before: Regs) -> Outcome {
     (Ok(Request::Nothing), after)
 }
 
-/// The instruction is done: a register has a new value, and the next instruction follows.
-pub fn computes(before: Regs, register: usize, value: u32) -> Outcome
+/// The registers with a new value in one of them.
+pub fn with_register(before: Regs, register: usize, value: u32) -> Regs
     requires { register < 32 }
 {
     let mut after = before;
     after.general[register] = value;
-    passes(after)
+    after
+}
+
+/// The instruction is done: a register has a new value, and the next instruction follows.
+pub fn computes(before: Regs, register: usize, value: u32) -> Outcome
+    requires { register < 32 }
+{
+    passes(with_register(before, register, value))
 }
 
 /// The instruction in the delay slot follows, and then a target.

@@ -1,10 +1,9 @@
 //! Words and their instructions, by the manual's encodings.
 ghost use Rattle.std.specs.Prelude.{◌≡◌, ◌<◌};
 
-use crate::{decode, encode};
-use base_words::{
+use crate::{
     AluOp, Cond, Cp0Op, Half, Instr, JumpIndex, LoadKind, MulOp, Register, ShiftOp, StoreKind,
-    SystemCode, TrapCode, Untaken,
+    SystemCode, TrapCode, Untaken, decode, encode,
 };
 
 fn r(number: u32) -> Register
@@ -974,7 +973,7 @@ fn words_outside_the_table(rt: HostRuntime) {
         (0x4200_0058, "ERET with a bit more"),
         (0x4040_0000, "an unknown move of coprocessor 0"),
         (0x4C00_0000, "coprocessor 3"),
-        (0xBC22_0000, "opcode 2F"),
+        (0xBC22_0000, "opcode 2F, the manual's CACHE"),
         (0x6422_0001, "opcode 19"),
         (0xDC22_0008, "opcode 37"),
         (0x0000_003F, "function 3F"),

@@ -5,7 +5,7 @@ use Rattle.outside_io.specs.Reading.{Told, Absent, Holds, ShelfView, MayBe}
 use Rattle.outside_io.specs.Writing.{SinkView}
 use Rattle.guest_core.specs.declared.records.RunRecord.{RunRecord}
 use Rattle.admission.specs.declared.faults.Fault.{Fault}
-use Rattle.admission.specs.declared.faults.Fault.TheVariants.{Words, Read, Long, Description, BadImage, Unbuilt, Admission}
+use Rattle.admission.specs.declared.faults.Fault.TheVariants.{Words, Read, Long, Description, BadImage, Unbuilt, CacheAdmission, Admission}
 use Rattle.admission.specs.Chain.{Files}
 use Rattle.admission.specs.Jobs.{Job, job_of}
 use Rattle.admission.specs.Ready.{AreGiven}
@@ -43,6 +43,7 @@ due_two (Err (Long name)) is = absurd (omega (arith, is))
 due_two (Err (Description fault)) is = absurd (omega (arith, is))
 due_two (Err (BadImage guest fault)) is = absurd (omega (arith, is))
 due_two (Err (Unbuilt key)) is = absurd (omega (arith, is))
+due_two (Err (CacheAdmission cell needs has)) is = absurd (omega (arith, is))
 due_two (Err (Admission guest needs has)) is = absurd (omega (arith, is))
 
 due_three : (r : Result Job Fault) → due_status r ≡ 3 → (name : List ℕ) × (r ≡ Err (Read name))
@@ -53,6 +54,7 @@ due_three (Err (Long name)) is = absurd (omega (arith, is))
 due_three (Err (Description fault)) is = absurd (omega (arith, is))
 due_three (Err (BadImage guest fault)) is = absurd (omega (arith, is))
 due_three (Err (Unbuilt key)) is = absurd (omega (arith, is))
+due_three (Err (CacheAdmission cell needs has)) is = absurd (omega (arith, is))
 due_three (Err (Admission guest needs has)) is = absurd (omega (arith, is))
 
 not_four : (r : Result Job Fault) → due_status r ≡ 4 → ⊥
@@ -63,6 +65,7 @@ not_four (Err (Long name)) is = omega (arith, is)
 not_four (Err (Description fault)) is = omega (arith, is)
 not_four (Err (BadImage guest fault)) is = omega (arith, is)
 not_four (Err (Unbuilt key)) is = omega (arith, is)
+not_four (Err (CacheAdmission cell needs has)) is = omega (arith, is)
 not_four (Err (Admission guest needs has)) is = omega (arith, is)
 
 -- a chain is refused at a read, or it isn't
@@ -77,6 +80,7 @@ stops (Err (Long name)) = inl tt
 stops (Err (Description fault)) = inl tt
 stops (Err (BadImage guest fault)) = inl tt
 stops (Err (Unbuilt key)) = inl tt
+stops (Err (CacheAdmission cell needs has)) = inl tt
 stops (Err (Admission guest needs has)) = inl tt
 
 -- ---- the files of a call, and others

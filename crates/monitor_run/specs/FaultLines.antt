@@ -8,7 +8,7 @@ use Rattle.machine_desc.specs.declared.fault.Amount.TheVariants.{Number, Length}
 use Rattle.machine_desc.specs.declared.fault.DescFault.{DescFault}
 use Rattle.machine_desc.specs.declared.fault.DescFault.TheVariants as description
 use Rattle.admission.specs.declared.faults.Fault.{Fault}
-use Rattle.admission.specs.declared.faults.Fault.TheVariants.{Words, Read, Long, Description, BadImage, Unbuilt, Admission}
+use Rattle.admission.specs.declared.faults.Fault.TheVariants.{Words, Read, Long, Description, BadImage, Unbuilt, CacheAdmission, Admission}
 use Rattle.admission.specs.declared.faults.UnbuiltKey.{UnbuiltKey}
 use Rattle.admission.specs.declared.faults.UnbuiltKey.TheVariants as key
 use Rattle.monitor_run.specs.Report.{line_end}
@@ -59,6 +59,8 @@ fault_line (Long name) = codes "fault long " ++ (name ++ line_end)
 fault_line (Description fault) = codes "fault description " ++ (description_text fault ++ line_end)
 fault_line (BadImage guest fault) = codes "fault image " ++ (decimal guest.0 ++ (codes " " ++ (image_text fault ++ line_end)))
 fault_line (Unbuilt key) = codes "fault description unbuilt " ++ (key_text key ++ line_end)
+fault_line (CacheAdmission cell needs has) =
+    codes "fault admission cell " ++ (decimal cell.0 ++ (codes " needs " ++ (decimal needs ++ (codes " has " ++ (decimal has ++ line_end)))))
 fault_line (Admission guest needs has) =
     codes "fault admission guest " ++ (decimal guest.0 ++ (codes " needs " ++ (decimal needs ++ (codes " has " ++ (decimal has ++ line_end)))))
 
@@ -69,5 +71,6 @@ status_of (Read name) = 3
 status_of (Description fault) = 5
 status_of (Unbuilt key) = 5
 status_of (BadImage guest fault) = 6
+status_of (CacheAdmission cell needs has) = 7
 status_of (Admission guest needs has) = 7
 status_of (Long name) = 8

@@ -141,6 +141,10 @@ pub fn fault_line(alloc: Global, fault: &Fault) -> Result<String, AllocError>
         Fault::Description(fault) => description_line(alloc, fault),
         Fault::BadImage(guest, fault) => image_line(alloc, *guest, *fault),
         Fault::Unbuilt(key) => unbuilt_line(alloc, *key),
+        Fault::CacheAdmission { cell, needs, has } => {
+            let number = cell.0;
+            format!(in alloc; "fault admission cell {number} needs {needs} has {has}\n")
+        }
         Fault::Admission { guest, needs, has } => {
             let number = guest.0;
             format!(in alloc; "fault admission guest {number} needs {needs} has {has}\n")

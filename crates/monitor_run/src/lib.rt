@@ -20,7 +20,11 @@ pub use sums::Sums;
 pub use top::disco;
 
 #[cfg(test)]
+mod cases;
+#[cfg(test)]
 mod descriptions;
+#[cfg(test)]
+mod example_files;
 #[cfg(test)]
 mod examples;
 #[cfg(test)]
@@ -31,6 +35,8 @@ mod packets;
 mod parallel;
 #[cfg(test)]
 mod programs;
+#[cfg(test)]
+mod refusals;
 #[cfg(test)]
 mod spaces;
 #[cfg(test)]

@@ -1,6 +1,8 @@
 //! The top call over files and an output in memory.
 use crate::disco;
-use base_words::{Bytes, Name, Sequence};
+use crate::fault_lines::fault_line;
+use admission::Fault;
+use base_words::{Bytes, CellId, Name, Sequence};
 use guest_core::RunRecord;
 use outside_io::{CallList, FileList, FreeGate, HeldFile, MemShelf, MemSink};
 use std::alloc::{AllocError, Global};
@@ -238,6 +240,19 @@ fn files_are_refused(rt: HostRuntime) -> Result<(), Fail> {
             ..halts()
         },
     )?;
+    Ok(())
+}
+
+/// The line of a cell that is short, to which no description leads as long as caches aren't built.
+#[test]
+fn a_cell_that_is_short_has_its_line(rt: HostRuntime) -> Result<(), Fail> {
+    let fault = Fault::CacheAdmission {
+        cell: CellId(0),
+        needs: 5,
+        has: 4,
+    };
+    let line = fault_line(rt.alloc(), &fault)?;
+    assert_eq!(rt; line.as_str(), "fault admission cell 0 needs 5 has 4\n");
     Ok(())
 }
 

@@ -36,7 +36,7 @@ fn status_of(fault: &Fault) -> u8
         Fault::Read(_) => 3,
         Fault::Description(_) | Fault::Unbuilt(_) => 5,
         Fault::BadImage(_, _) => 6,
-        Fault::Admission { .. } => 7,
+        Fault::CacheAdmission { .. } | Fault::Admission { .. } => 7,
         Fault::Long(_) => 8,
     }
 }

@@ -28,11 +28,9 @@ use Rattle.guest_course.specs.CourseView.{surroundings}
 use Rattle.guest_course.specs.declared.site.Around.{Around}
 use Rattle.guest_core.specs.Holding.{is_copy, frames_around, found_times, HoldsFor, FitsAround}
 use Rattle.run_workers.specs.Booting.{IsSite}
-use Rattle.boot_frames.specs.Needs.{need_of}
-use Rattle.boot_frames.specs.Chain.{home_of}
+use Rattle.node_frames.specs.Places.{cell_of_node}
 use Rattle.boot_frames.specs.Loans.{is_lent, loans_in, cell_of_frame as frame_cell}
-use Rattle.boot_frames.specs.Lots.{Has, IsNew, Serves}
-use Rattle.boot_frames.specs.declared.needs.Need.{Need}
+use Rattle.boot_frames.specs.Lots.{Has, IsNew}
 use Rattle.boot_frames.specs.declared.lots.Lot.{Lot}
 
 -- what is counted of the frames that were found is counted of the frames
@@ -133,7 +131,7 @@ cell-at [] n = refl
 cell-at (c ∷ cells) zero = refl
 cell-at (c ∷ cells) (suc n) = cell-at cells n
 
-pub is-around : (machine : Machine) (around : Around) (spec : GuestSpec) → IsSite machine around.site → around.home ≡ spec.node → IsAround (layout_of machine.shape) (home_of (layout_of machine.shape) (need_of spec)) (surroundings around)
+pub is-around : (machine : Machine) (around : Around) (spec : GuestSpec) → IsSite machine around.site → around.home ≡ spec.node → IsAround (layout_of machine.shape) (cell_of_node (layout_of machine.shape) spec.node.0) (surroundings around)
 is-around machine around spec site home =
     let shape = around.site.shape in
     record {

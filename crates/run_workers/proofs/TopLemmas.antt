@@ -117,6 +117,20 @@ all-starts d sources guests tokens shared holder accepted many booted =
     let is = subst (λ (x : GuestSpec). IsStart d i x source started.input guest.start) same-spec started.start in
     subst (λ m. IsStart d m spec source input guest.start) (let e : i ≡ 0 + i = omega arith in e) (subst (λ (x : List InputEntry). IsStart d i spec source x guest.start) same-input is))
 
+told-from : (d : Described) (k : ℕ) (specs : List GuestSpec) (sources : List Source) (inputs : List (List InputEntry)) (boots : List Boot) → AreStarts d k specs sources inputs boots → (i : ℕ) (b : Boot) → slice_get boots i ≡ Some b → b.around.guest ≡ k + i
+told-from d k specs sources inputs [] are i b at = absurd (let m : i < 0 = (get-index [] i b b at).0 in omega arith)
+told-from d k [] [] [] (x ∷ boots) are i b at = absurd are
+told-from d k [] [] (n ∷ inputs) (x ∷ boots) are i b at = absurd are
+told-from d k [] (c ∷ sources) inputs (x ∷ boots) are i b at = absurd are
+told-from d k (s ∷ specs) [] inputs (x ∷ boots) are i b at = absurd are
+told-from d k (s ∷ specs) (c ∷ sources) [] (x ∷ boots) are i b at = absurd are
+told-from d k (s ∷ specs) (c ∷ sources) (n ∷ inputs) (x ∷ boots) are zero b at = subst (λ (y : Boot). y.around.guest ≡ k + 0) (same-some x b at) (ap (λ w. w.guest) are.0.around ∙ omega arith)
+told-from d k (s ∷ specs) (c ∷ sources) (n ∷ inputs) (x ∷ boots) are (suc i) b at = told-from d (suc k) specs sources inputs boots are.1 i b at ∙ omega arith
+
+-- each guest is told its own number
+pub starts-told : (d : Described) (specs : List GuestSpec) (sources : List Source) (inputs : List (List InputEntry)) (boots : List Boot) → AreStarts d 0 specs sources inputs boots → (i : ℕ) (b : Boot) → slice_get boots i ≡ Some b → b.around.guest ≡ i
+starts-told d specs sources inputs boots are i b at = told-from d 0 specs sources inputs boots are i b at ∙ (let e : 0 + i ≡ i = omega arith in e)
+
 pub is-whole : (d : Described) (boots : List Boot) (wires : Made) (out : RunRecord) (lists : List PassList) → IsRunOf boots d.items wires out lists → ((i : ℕ) (b : Boot) → slice_get boots i ≡ Some b → b.around.guest ≡ i) → AreInOrder lists → IsWhole d boots out
 is-whole d boots wires out lists is numbers ordered = record {
   states = is.states;

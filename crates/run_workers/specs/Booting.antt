@@ -7,6 +7,7 @@ use Rattle.run_workers.specs.declared.source.Source.{Source}
 use Rattle.isolation_law.specs.Start.{Boot}
 use Rattle.node_frames.specs.Layout.{Layout}
 use Rattle.node_frames.specs.Left.{Left}
+use Rattle.boot_frames.specs.Claims.{page_claim}
 use Rattle.boot_frames.specs.Lots.{Serves}
 use Rattle.boot_frames.specs.declared.lots.Lot.{Lot}
 use Rattle.shootdown.specs.Notes.{Token, Seat}
@@ -37,7 +38,7 @@ pub record IsSite (machine : Machine) (site : Site) : Type 0 where
 
 -- the frames and the holder of a guest, of what the guests before it left
 abbrev pub IsLotOf : MadeTable → Layout → GuestSpec → Lot → Type 0
-IsLotOf table layout spec lot = (left : Left) × Serves table layout left (need_of spec) lot
+IsLotOf table layout spec lot = (left : Left) × (guest : ℕ) × Serves table layout left (page_claim guest (need_of spec)) lot
 
 -- a guest of this number that goes on, with a seat of this board, which shares this
 pub record IsFresh (board : TableId) (shared : Shared) (number : ℕ) (guest : Monitored) : Type 0 where

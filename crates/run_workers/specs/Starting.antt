@@ -4,6 +4,7 @@ use Rattle.base_words.specs.declared.input.InputEntry.{InputEntry}
 use Rattle.node_frames.specs.Layout.{Layout}
 use Rattle.node_frames.specs.Left.{first_left}
 use Rattle.boot_frames.specs.Chain.{first_short}
+use Rattle.boot_frames.specs.Claims.{claims_of}
 use Rattle.boot_frames.specs.Needs.{need_of}
 use Rattle.run_workers.specs.declared.source.Source.{Source}
 use Rattle.isolation_law.specs.Surroundings.{Surroundings}
@@ -70,6 +71,7 @@ AreSources [] [] = Unit {0}
 AreSources (spec ∷ specs) (source ∷ sources) = IsSource spec source × AreSources specs sources
 AreSources specs sources = ⊥
 
--- each guest gets its frames, one guest after another, of all that the machine has and its cells lend
-abbrev pub AreServed : Layout → List ℕ → List GuestSpec → Type 0
-AreServed layout lends specs = first_short layout 0 (map need_of specs) (first_left layout lends) ≡ None
+-- each cell gets so many frames for its cache and then each guest its own, one after another, of all that the machine has and its cells
+-- lend
+abbrev pub AreServed : Layout → List ℕ → ℕ → List GuestSpec → Type 0
+AreServed layout lends cache specs = first_short layout (claims_of (length lends) cache (map need_of specs)) (first_left layout lends) ≡ None

@@ -10,15 +10,20 @@ ghost use Rattle.frame_words.specs.FrameRights.{first_view};
 ghost use Rattle.frame_words.specs.Holders.{IsMade};
 ghost use Rattle.node_frames.specs.Layout.{layout_of};
 ghost use Rattle.node_frames.specs.Left.{first_left};
+ghost use Rattle.boot_frames.specs.Claims.{page_claims};
 ghost use Rattle.boot_frames.specs.Lots.{ServesAll};
 ghost use Rattle.boot_frames.specs.Needs.{need_of};
+ghost use Rattle.boot_frames.specs.declared.lots.Lot.{Lot};
 ghost use Rattle.run_workers.specs.Starting.{IsBuilt, IsSource, AreSources, AreServed};
 ghost use Rattle.run_workers.specs.Booting.{home_in, IsSite, IsSeat, board_of, AreSeats, IsLotOf, IsStarted, AreBooted, HasBooted, AreWires, HasPasses, HaveAllPasses};
 
 use crate::{Source, SourceList};
 use base_words::{CellList, GuestId, Sequence, Shape};
-use boot_frames::{Lot, Shortage, a_lot_holds_its_frames, each_guest_has_its_lot, needs_of, place};
-use frame_words::{FrameTable, Holder};
+use boot_frames::{
+    Lot, Shortage, a_lot_holds_its_frames, an_empty_cache_takes_nothing, each_guest_has_its_lot,
+    needs_of, place,
+};
+use frame_words::{FrameTable, Holder, join};
 use guest_core::Guest;
 use guest_course::{Around, Site};
 use machine_desc::{Machine, Plan};
@@ -66,7 +71,24 @@ fn site_of(alloc: Global, machine: &Machine) -> Result<Site, AllocError>
     })
 }
 
-/// The frames of all guests, each with a holder.
+/// Ends the holders of caches that have no frames.
+fn join_caches(table: &FrameTable, holder: &mut Holder, caches: Vec<Lot>)
+    requires made { IsMade table.now holder.old }
+    requires nothing { holder.old.view.holds ≡ [] }
+    requires empty { All (λ (lot : Lot). (lot.holder.view.holds ≡ []) × IsMade table.now lot.holder) caches.items }
+    ensures nothing { holder.new.view.holds ≡ [] }
+    ensures same { holder.new.table ≡ holder.old.table }
+{
+    for cache in caches {
+        let Lot {
+            frames: _,
+            holder: last,
+        } = cache;
+        join(table, holder, last);
+    }
+}
+
+/// The frames of all guests, each with a holder. The cells' caches have none.
 fn lots_of(
     alloc: Global,
     machine: &Machine,
@@ -75,21 +97,37 @@ fn lots_of(
     holder: &mut Holder,
 ) -> Result<Vec<Lot>, AllocError>
     requires described { IsDescribed machine.now plan.now }
-    requires served { AreServed (layout_of machine.now.shape) machine.now.lends machine.now.guests }
+    requires built { IsBuilt (described_seen machine.now plan.now) }
+    requires served { AreServed (layout_of machine.now.shape) machine.now.lends machine.now.cache machine.now.guests }
     requires made { IsMade table.now holder.old }
     requires first { holder.old.view ≡ first_view table.now.terms }
     requires frames { table.now.terms.frames ≡ machine.now.shape.nodes * machine.now.shape.frames }
     requires fresh { table.now.terms.first ≡ 0 }
     requires lends { table.now.terms.lends ≡ machine.now.lends }
-    ensures serves { IfOk result (λ lots. ServesAll table.now (layout_of machine.now.shape) (first_left (layout_of machine.now.shape) machine.now.lends) (map need_of machine.now.guests) lots.items) }
+    ensures serves { IfOk result (λ lots. ServesAll table.now (layout_of machine.now.shape) (first_left (layout_of machine.now.shape) machine.now.lends) (page_claims 0 (map need_of machine.now.guests)) lots.items) }
     ensures rest { IfOk result (λ lots. holder.new.view.holds ≡ []) }
     ensures same { holder.new.table ≡ holder.old.table }
 {
     let _ = plan;
+    an_empty_cache_takes_nothing();
     let needs = needs_of(alloc, machine.guests.as_slice())?;
-    match place(alloc, table, holder, &machine.shape, needs.as_slice()) {
-        Ok(lots) => Ok(lots),
+    let cells = machine.lends.len() as u8;
+    let cache = machine.cache;
+    match place(
+        alloc,
+        table,
+        holder,
+        &machine.shape,
+        cells,
+        cache,
+        needs.as_slice(),
+    ) {
+        Ok(placed) => {
+            join_caches(table, holder, placed.caches);
+            Ok(placed.guests)
+        }
         Err(Shortage::Memory) => Err(AllocError),
+        Err(Shortage::Cell { .. }) => unreachable!(),
         Err(Shortage::Guest { .. }) => unreachable!(),
     }
 }
@@ -150,7 +188,7 @@ fn boot_all(
     requires described { IsDescribed machine.now plan.now }
     requires built { IsBuilt (described_seen machine.now plan.now) }
     requires sources { AreSources machine.now.guests sources }
-    requires lots { ServesAll table.now (layout_of machine.now.shape) (first_left (layout_of machine.now.shape) machine.now.lends) (map need_of machine.now.guests) lots.items }
+    requires lots { ServesAll table.now (layout_of machine.now.shape) (first_left (layout_of machine.now.shape) machine.now.lends) (page_claims 0 (map need_of machine.now.guests)) lots.items }
     requires seats { AreSeats (length sources) seats }
     requires frames { table.now.terms.frames ≡ machine.now.shape.nodes * machine.now.shape.frames }
     requires lends { table.now.terms.lends ≡ machine.now.lends }
@@ -201,9 +239,11 @@ pub(crate) fn boot(
 ) -> Result<Booted, AllocError>
     requires described { IsDescribed machine.now plan.now }
     requires built { IsBuilt (described_seen machine.now plan.now) }
-    requires served { AreServed (layout_of machine.now.shape) machine.now.lends machine.now.guests }
+    requires served { AreServed (layout_of machine.now.shape) machine.now.lends machine.now.cache machine.now.guests }
     requires sources { AreSources machine.now.guests sources }
-    ensures { IfOk result (λ b. HasBooted (described_seen machine.now plan.now) sources b.guests.items b.tokens (record { table = b.table; wires = b.wires }) b.holder) }
+    ensures booted { IfOk result (λ b. HasBooted (described_seen machine.now plan.now) sources b.guests.items b.tokens (record { table = b.table; wires = b.wires }) b.holder) }
+    ensures frames { IfOk result (λ b. b.table.terms.frames ≡ machine.now.shape.nodes * machine.now.shape.frames) }
+    ensures lends { IfOk result (λ b. b.table.terms.lends ≡ machine.now.lends) }
 {
     let frames = u32::from(machine.shape.nodes) * machine.shape.frames;
     let (table, mut holder) = FrameTable::new(alloc, frames, machine.lends.as_slice(), 0)?;

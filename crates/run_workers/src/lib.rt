@@ -9,6 +9,8 @@ mod ordering;
 mod running;
 mod serving;
 mod source;
+#[cfg(test)]
+mod tests;
 mod workers;
 
 pub use running::run;

@@ -1,5 +1,5 @@
 //! A plan's run.
-ghost use Rattle.std.specs.Prelude.{◌≡◌, [], IfOk, List, map};
+ghost use Rattle.std.specs.Prelude.{◌≡◌, ◌*◌, [], IfOk, List, map};
 ghost use Rattle.frame_words.specs.Holders.{IsMade};
 ghost use Rattle.node_frames.specs.Layout.{layout_of};
 ghost use Rattle.isolation_law.specs.Start.{Boot};
@@ -68,20 +68,36 @@ fn run_named<N: Starts + Send + Sync, R: Threads + Wait + Sync, G: Gate>(
     Ok((record, passes))
 }
 
-/// Starts the guests and carries the plan out. At the end each guest has given its frames back.
-pub fn run<R: Threads + Wait + Sync, G: Gate>(
+/// What a run leaves: its record, the table of the guests' frames with its first holder, which has nothing, and the wires between the
+/// guests with all ends of theirs.
+#[derive(Drop)]
+pub(crate) struct Finished {
+    pub(crate) record: RunRecord,
+    pub(crate) table: FrameTable,
+    pub(crate) holder: Holder,
+    pub(crate) wires: Wires,
+    pub(crate) passes: AllPasses,
+}
+
+/// Starts the guests and carries the plan out.
+pub(crate) fn finish<R: Threads + Wait + Sync, G: Gate>(
     rt: &R,
     alloc: Global,
     machine: &Machine,
     plan: &Plan,
     sources: SourceList,
     gate: &G,
-) -> Result<RunRecord, AllocError>
+) -> Result<Finished, AllocError>
     requires described { IsDescribed machine.now plan.now }
     requires built { IsBuilt (described_seen machine.now plan.now) }
     requires sources { AreSources machine.now.guests sources }
-    requires served { AreServed (layout_of machine.now.shape) machine.now.lends machine.now.guests }
-    ensures { IfOk result (λ out. (boots : List Boot) × AreStarts (described_seen machine.now plan.now) 0 machine.now.guests sources plan.now.input boots × IsWhole (described_seen machine.now plan.now) boots out) }
+    requires served { AreServed (layout_of machine.now.shape) machine.now.lends machine.now.cache machine.now.guests }
+    ensures run { IfOk result (λ f. (boots : List Boot) × AreStarts (described_seen machine.now plan.now) 0 machine.now.guests sources plan.now.input boots × IsRunOf boots plan.now.items f.wires f.record f.passes) }
+    ensures made { IfOk result (λ f. IsMade f.table f.holder) }
+    ensures nothing { IfOk result (λ f. f.holder.view.holds ≡ []) }
+    ensures passes { IfOk result (λ f. AreAllOf f.wires f.passes) }
+    ensures frames { IfOk result (λ f. f.table.terms.frames ≡ machine.now.shape.nodes * machine.now.shape.frames) }
+    ensures lends { IfOk result (λ f. f.table.terms.lends ≡ machine.now.lends) }
 {
     let mut booted = boot(alloc, machine, plan, sources)?;
     let (record, passes) = run_named::<Brand, R, G>(
@@ -95,7 +111,32 @@ pub fn run<R: Threads + Wait + Sync, G: Gate>(
         plan,
         gate,
     )?;
-    close(booted.table, booted.holder);
-    booted.wires.close(passes);
-    Ok(record)
+    Ok(Finished {
+        record,
+        table: booted.table,
+        holder: booted.holder,
+        wires: booted.wires,
+        passes,
+    })
+}
+
+/// Starts the guests and carries the plan out. At the end each guest has given its frames back.
+pub fn run<R: Threads + Wait + Sync, G: Gate>(
+    rt: &R,
+    alloc: Global,
+    machine: &Machine,
+    plan: &Plan,
+    sources: SourceList,
+    gate: &G,
+) -> Result<RunRecord, AllocError>
+    requires described { IsDescribed machine.now plan.now }
+    requires built { IsBuilt (described_seen machine.now plan.now) }
+    requires sources { AreSources machine.now.guests sources }
+    requires served { AreServed (layout_of machine.now.shape) machine.now.lends machine.now.cache machine.now.guests }
+    ensures { IfOk result (λ out. (boots : List Boot) × AreStarts (described_seen machine.now plan.now) 0 machine.now.guests sources plan.now.input boots × IsWhole (described_seen machine.now plan.now) boots out) }
+{
+    let finished = finish(rt, alloc, machine, plan, sources, gate)?;
+    close(finished.table, finished.holder);
+    finished.wires.close(finished.passes);
+    Ok(finished.record)
 }

@@ -16,7 +16,7 @@ use crate::decision::Deed;
 use crate::emulated::EntryWrite;
 use base_words::{Cp0Op, Exception, Register, VcpuId};
 use guest_devs::{DevAct, Devs};
-use mips_retire::{do_system, pass, put, read_cp0, write_cp0};
+use mips_retire::{do_system, pass, put, read_cp0, shown_stays, write_cp0};
 use private_machine::Vcpu;
 
 /// The number of EntryHi in coprocessor 0.
@@ -101,6 +101,7 @@ fn carry_out(
     ensures spends { Spends devs.old.state.pages devs.old devs.new }
     ensures tells { (memory : List ℕ) (disk : List (List ℕ)) → Tells (machine_of devs.old.state.pages vcpus.old devs.old.state.page memory disk) vcpu.0 deed (machine_of devs.old.state.pages vcpus.new devs.new.state.page memory disk) result }
 {
+    shown_stays();
     let place = vcpu.0 as usize;
     match deed {
         Deed::Raise(exception) => {
@@ -155,6 +156,7 @@ fn tick(vcpus: &mut [Vcpu], vcpu: VcpuId, devs: &Devs)
     ensures fits { Fits devs.now.state.pages vcpus.new devs.now.state }
     ensures ticked { (memory : List ℕ) (disk : List (List ℕ)) → machine_of devs.now.state.pages vcpus.new devs.now.state.page memory disk ≡ on_vcpu (machine_of devs.now.state.pages vcpus.old devs.now.state.page memory disk) vcpu.0 ticking }
 {
+    shown_stays();
     vcpus[vcpu.0 as usize].tick();
 }
 

@@ -3,7 +3,7 @@ use Rattle.boot_frames.specs.Takings.{TakesAll}
 use Rattle.boot_frames.proofs.filling.take_all.Given as goal
 use Rattle.node_frames.specs.Layout.{layout_of}
 
-abbrev pub invariant-loop-number : goal.invariant-loop-number
-invariant-loop-number l =
+abbrev pub invariant-loop-claim : goal.invariant-loop-claim
+invariant-loop-claim l =
     (l.holder.table ≡ l.initial.holder.table)
-    × TakesAll l.table (layout_of l.shape) (take l.number l.needs) l.taken.items l.initial.holder.view l.holder.view
+    × TakesAll l.table (layout_of l.shape) (take l.claim-index l.claims) l.taken.items l.initial.holder.view l.holder.view

@@ -1,5 +1,5 @@
 use Rattle.cell_depend.proofs.Counting.{Joins-push}
-use Rattle.cell_depend.proofs.Changes.{AreCounts-more_frame}
+use Rattle.cell_depend.proofs.Changes.{AreCounts-more_frame, AreCounts-frame_elsewhere}
 use Rattle.cell_depend.proofs.law.frame_taken.Goals as goal
 
 pub returns-clause-behind : goal.returns-clause-behind
@@ -7,3 +7,6 @@ returns-clause-behind c = λ shape rows uses frame cell are place. AreCounts-mor
 
 pub returns-clause-anywhere : goal.returns-clause-anywhere
 returns-clause-anywhere c = AreCounts-more_frame
+
+pub returns-clause-elsewhere : goal.returns-clause-elsewhere
+returns-clause-elsewhere c = AreCounts-frame_elsewhere

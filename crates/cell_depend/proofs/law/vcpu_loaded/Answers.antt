@@ -1,5 +1,5 @@
 use Rattle.cell_depend.proofs.Counting.{Joins-push}
-use Rattle.cell_depend.proofs.Changes.{AreCounts-more_vcpu}
+use Rattle.cell_depend.proofs.Changes.{AreCounts-more_vcpu, AreCounts-vcpu_elsewhere}
 use Rattle.cell_depend.proofs.law.vcpu_loaded.Goals as goal
 
 pub returns-clause-behind : goal.returns-clause-behind
@@ -7,3 +7,6 @@ returns-clause-behind c = λ shape rows uses cell are counted. AreCounts-more_vc
 
 pub returns-clause-anywhere : goal.returns-clause-anywhere
 returns-clause-anywhere c = AreCounts-more_vcpu
+
+pub returns-clause-elsewhere : goal.returns-clause-elsewhere
+returns-clause-elsewhere c = AreCounts-vcpu_elsewhere

@@ -26,8 +26,8 @@ boot_all-requires-clause-seats c =
     let len = c.len-count.ensures in
     subst (λ n. AreSeats n c.in_ok-tokens.seats) len (fresh-seats c.len.result c.len-count.result c.in_ok-tokens.tokens c.in_ok-tokens.seats c.in_ok-tokens.ensures (omega (arith, same, some, len)))
 
-pub returns : goal.returns
-returns c =
+pub returns-clause-booted : goal.returns-clause-booted
+returns-clause-booted c =
     let same = sources-count c.args.machine.now.guests c.args.sources c.requires.sources in
     let some = c.requires.described.some_guests in
     let len = c.len-count.ensures in

@@ -1,17 +1,45 @@
-use Rattle.std.proofs.Common.{◌≡◌, ◌<◌, List, map, sym, ap, ◌∙◌, subst}
+use Rattle.std.proofs.Common.{◌≡◌, ◌<◌, ℕ, List, map, length, sym, ap, ◌∙◌, subst, arith}
 use Rattle.std.specs.Prelude.{All}
-use Rattle.std.proofs.lemmas.List.Elements.{All-map, All-weaker}
+use Rattle.node_frames.specs.Layout.{layout_of}
+use Rattle.node_frames.specs.Left.{Left, first_left}
 use Rattle.machine_desc.specs.Bounds.{IsGuest}
 use Rattle.machine_desc.specs.declared.machine.GuestSpec.{GuestSpec}
+use Rattle.boot_frames.specs.Chain.{after_claims}
+use Rattle.boot_frames.specs.Claims.{cache_claims, page_claims}
+use Rattle.boot_frames.specs.Lots.{ServesAll}
 use Rattle.boot_frames.specs.Needs.{need_of}
+use Rattle.boot_frames.specs.declared.lots.Lot.{Lot}
 use Rattle.boot_frames.specs.declared.needs.Need.{Need}
 use Rattle.run_workers.proofs.booting.lots_of.Goals as goal
 
 -- each guest is at home on a node that is there
 pub place-requires-clause-nodes : goal.place-requires-clause-nodes
 place-requires-clause-nodes c =
+    let nodes = c.args.machine.now.shape.nodes in
+    let guests = subst (λ (l : List GuestSpec). All (IsGuest nodes) l) (sym c.as_slice.ensures) c.requires.described.guests in
+    subst (λ (l : List Need). All (λ (need : Need). need.node.0 < nodes) l) (sym c.as_slice-2.ensures.value) (c.in_ok-needs.ensures.at_home nodes guests)
+
+-- the caches are empty
+pub join_caches-requires-clause-empty : goal.join_caches-requires-clause-empty
+join_caches-requires-clause-empty c =
     let machine = c.args.machine.now in
-    let needs = c.as_slice-2.ensures.value ∙ c.in_ok-needs.ensures ∙ ap (λ (l : List GuestSpec). map need_of l) c.as_slice.ensures in
-    subst (λ (l : List Need). All (λ (need : Need). need.node.0 < machine.shape.nodes) l) (sym needs)
-    (All-map (λ (need : Need). need.node.0 < machine.shape.nodes) need_of machine.guests
-    (All-weaker (IsGuest machine.shape.nodes) (λ (spec : GuestSpec). spec.node.0 < machine.shape.nodes) (λ spec is. is.home) machine.guests c.requires.described.guests))
+    let table = c.args.table.now in
+    let layout = layout_of machine.shape in
+    let left = first_left layout table.terms.lends in
+    let cells = c.len-cells.result in
+    c.an_empty_cache_takes_nothing.ensures.lots table layout left cells c.in-Ok.placed.caches.items
+    (subst (λ (cache : ℕ). ServesAll table layout left (cache_claims cache 0 cells) c.in-Ok.placed.caches.items) c.requires.built.no_cache c.in-Ok.ensures.caches)
+
+-- and leave all to the guests
+pub returns-in-Ok-clause-serves : goal.returns-in-Ok-clause-serves
+returns-in-Ok-clause-serves c =
+    let machine = c.args.machine.now in
+    let table = c.args.table.now in
+    let layout = layout_of machine.shape in
+    let cells = c.len-cells.result in
+    let lots = c.in-Ok.placed.guests.items in
+    let needs = c.as_slice-2.ensures.value ∙ c.in_ok-needs.ensures.needs ∙ ap (λ (l : List GuestSpec). map need_of l) c.as_slice.ensures in
+    let left = ap (λ (cache : ℕ). after_claims layout (cache_claims cache 0 cells) (first_left layout table.terms.lends)) c.requires.built.no_cache
+    ∙ c.an_empty_cache_takes_nothing.ensures.left layout cells (first_left layout table.terms.lends) ∙ ap (first_left layout) c.requires.lends in
+    subst (λ (l : Left). ServesAll table layout l (page_claims 0 (map need_of machine.guests)) lots) left
+    (subst (λ (ns : List Need). ServesAll table layout (after_claims layout (cache_claims machine.cache 0 cells) (first_left layout table.terms.lends)) (page_claims 0 ns) lots) needs c.in-Ok.ensures.guests)

@@ -3,7 +3,6 @@ use Rattle.std.proofs.lemmas.List.{get_or_default}
 use Rattle.base_words.specs.Coprocessor.{register_at, writes}
 use Rattle.base_words.specs.Instruction.{advanced}
 use Rattle.mips_alu.specs.Execution.{passed_system}
-use Rattle.mips_retire.proofs.ShownLemmas.{shown_by-raising, shown_by-writes, shown_by-system_done}
 use Rattle.private_machine.specs.PrivateMachine.{vcpu}
 use Rattle.private_machine.specs.Showing.{shown_by}
 use Rattle.private_machine.specs.declared.vcpu.Vcpu.{Vcpu}
@@ -17,7 +16,7 @@ use Rattle.trap_emulate.proofs.making.carry_out.Goals as goal
 pub returns-in-Raise-clause-fits : goal.returns-in-Raise-clause-fits
 returns-in-Raise-clause-fits c =
     Fits-one c.args.devs.now.state.pages c.args.vcpus.now c.args.devs.now.state c.args.vcpu.0 c.raise.new.self c.index-vcpus-place.result c.requires.fits
-    (ap shown_by c.raise.ensures ∙ shown_by-raising (get_or c.args.vcpus.now c.args.vcpu.0 c.index-vcpus-place.result) c.in-Raise.exception)
+    (ap shown_by c.raise.ensures ∙ c.shown_stays.ensures.raised (get_or c.args.vcpus.now c.args.vcpu.0 c.index-vcpus-place.result) c.in-Raise.exception)
 
 pub returns-in-ReadCp0-clause-fits : goal.returns-in-ReadCp0-clause-fits
 returns-in-ReadCp0-clause-fits c =
@@ -28,13 +27,13 @@ pub returns-in-WriteCp0-clause-fits : goal.returns-in-WriteCp0-clause-fits
 returns-in-WriteCp0-clause-fits c =
     let x = c.index-vcpus-place-in-WriteCp0 in
     Fits-one c.args.devs.now.state.pages c.args.vcpus.now c.args.devs.now.state c.args.vcpu.0 c.write_cp0.new.vcpu x.result c.requires.fits
-    (ap shown_by c.write_cp0.ensures ∙ shown_by-writes (let y = get_or c.args.vcpus.now c.args.vcpu.0 x.result in with_registers (advanced y.registers) y) (register_at c.in-WriteCp0.number) c.in-WriteCp0.value)
+    (ap shown_by c.write_cp0.ensures ∙ c.shown_stays.ensures.written (let y = get_or c.args.vcpus.now c.args.vcpu.0 x.result in with_registers (advanced y.registers) y) (register_at c.in-WriteCp0.number) c.in-WriteCp0.value)
 
 pub returns-in-System-clause-fits : goal.returns-in-System-clause-fits
 returns-in-System-clause-fits c =
     let x = c.index-vcpus-place-in-System-2 in
     Fits-one c.args.devs.now.state.pages c.args.vcpus.now c.args.devs.now.state c.args.vcpu.0 c.do_system.new.vcpu x.result c.requires.fits
-    (ap shown_by c.do_system.ensures ∙ let y = get_or c.args.vcpus.now c.args.vcpu.0 x.result in shown_by-system_done c.in-System.op (passed_system c.in-System.op y.registers) y)
+    (ap shown_by c.do_system.ensures ∙ let y = get_or c.args.vcpus.now c.args.vcpu.0 x.result in c.shown_stays.ensures.system y c.in-System.op (passed_system c.in-System.op y.registers))
 
 pub returns-in-WriteCp0-clause-tells : goal.returns-in-WriteCp0-clause-tells
 returns-in-WriteCp0-clause-tells c memory disk =

@@ -1,10 +1,9 @@
 use Rattle.std.proofs.Common.{ap, ◌∙◌}
 use Rattle.private_machine.specs.Showing.{shown_by}
-use Rattle.mips_retire.proofs.ShownLemmas.{shown_by-ticking}
 use Rattle.flat_machine.proofs.SoundLemmas.{IsSound-with_item}
 use Rattle.flat_machine.proofs.machine.Machine.tick.Goals as goal
 
 pub returns-clause-sound : goal.returns-clause-sound
 returns-clause-sound c =
     IsSound-with_item c.args.self.now c.args.vcpu.0 c.tick.new.self c.index_mut.result.now c.requires.sound c.index_mut.ensures.value
-    (ap shown_by c.tick.ensures ∙ shown_by-ticking c.index_mut.result.now)
+    (ap shown_by c.tick.ensures ∙ c.shown_stays.ensures.ticked c.index_mut.result.now)

@@ -1,15 +1,16 @@
 -- The parts are those of the law's start.
-use Rattle.std.proofs.Common.{◌≡◌, ℕ, ◌<◌, ◌≤◌, List, [], None, Some, length, refl, sym, ap, ◌∙◌, subst, arith}
+use Rattle.std.proofs.Common.{◌≡◌, ℕ, ◌*◌, ◌<◌, ◌≤◌, List, [], None, Some, length, refl, sym, ap, ◌∙◌, subst, arith}
 use Rattle.std.proofs.lemmas.List.{length-map}
+use Rattle.std.specs.Prelude.{All}
 use Rattle.base_words.specs.declared.events.End.{End}
 use Rattle.base_words.specs.declared.ids.CellId.{CellId}
 use Rattle.base_words.specs.declared.frame.Frame.{Frame}
 use Rattle.isolation_law.specs.GuestState.{GuestState}
 use Rattle.isolation_law.specs.Start.{Boot, start as started}
 use Rattle.guest_course.specs.BootCalls.{AreWhole, MayBoot, given_blocks, boot_of}
-use Rattle.guest_course.specs.CourseView.{state_of}
+use Rattle.guest_course.specs.CourseView.{state_of, surroundings}
 use Rattle.guest_core.specs.GuestView.{loaded_count}
-use Rattle.guest_core.specs.Holding.{IsHolding}
+use Rattle.guest_core.specs.Holding.{IsHolding, frames_around}
 use Rattle.guest_core.specs.Kept.{Kept}
 use Rattle.guest_core.specs.Starting.{booted_with}
 use Rattle.guest_core.proofs.BootLemmas.{same-boot, may-boot, no-loads, kept-start}
@@ -21,6 +22,9 @@ use Rattle.wire_queue.specs.declared.lists.PassList.{PassList}
 use Rattle.base_words.specs.declared.events.Event.{Event}
 use Rattle.guest_core.specs.Wiring.{IsWired, Posted}
 use Rattle.guest_core.proofs.WiringProofs.{posted-start}
+use Rattle.guest_core.specs.Using.{AreUses}
+use Rattle.guest_core.proofs.ShapeLemmas.{nodes-of}
+use Rattle.guest_core.proofs.UsingProofs.{uses-start, all-within}
 use Rattle.guest_core.proofs.parts.Parts.boot.Goals as goal
 
 pub boot-requires : goal.boot-requires
@@ -28,6 +32,13 @@ boot-requires c =
     let made = c.in_ok-frames.ensures in
     subst (λ (l : List Frame). MayBoot c.args.around c.args.vcpus l c.args.disk) (sym made.filled)
     (may-boot c.args.around c.args.image c.args.vcpus c.args.frames c.args.disk c.requires.may (subst AreWhole made.filled made.whole))
+
+-- each frame is the machine's
+pub count_frames-requires-clause-within : goal.count_frames-requires-clause-within
+count_frames-requires-clause-within c =
+    let shape = c.args.around.site.shape in
+    subst (λ (n : ℕ). All (λ (f : Frame). f.number.0 < n * shape.frames) c.args.frames) (nodes-of c.args.around)
+    (all-within c.args.frames (frames_around (surroundings c.args.around)) (λ frame some. c.requires.holds.within frame some))
 
 -- what the guest was started from
 abbrev from : goal.After-drop-frames-inside-2 → Boot
@@ -57,6 +68,7 @@ returns-clause-kept c =
         holding = subst (λ (s : GuestState). IsHolding s c.args.holder.view) (sym state) (holding-start b c.args.holder.view c.requires.holds);
         given_back = λ end is. absurd (not-ended end (sym (ap (λ (s : GuestState). s.end) state) ∙ is));
       };
+      used = subst (λ (g : GuestState). AreUses g c.in_ok-uses.uses) (sym state) (uses-start b c.args.frames c.args.around.site.shape c.in_ok-uses.uses refl (record { frames = refl; cells = refl }) c.in_ok-uses.ensures.cells c.in_ok-uses.ensures.counts);
       at_home = subst (λ (x : Boot). x.around.home < length x.around.nodes) (sym start) (subst (λ (n : ℕ). c.args.around.home.0 < n) (sym (length-map c.args.around.site.shape.cells (λ (x : CellId). x.0) ∙ c.args.around.site.shape.has_cells)) c.requires.may.at_home);
       no_policy = subst (λ (x : Boot). IsOff x.around.policy) (sym start) c.requires.may.no_policy;
       unloads = omega (arith, none);

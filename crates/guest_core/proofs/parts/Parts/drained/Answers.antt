@@ -19,6 +19,7 @@ asked old new wires k of list same still = record {
   kept = k.kept;
   goes_on = k.goes_on;
   frames = k.frames;
+  used = k.used;
   at_home = k.at_home;
   no_policy = k.no_policy;
   unloads = k.unloads;

@@ -34,6 +34,7 @@ returns-clause-kept c =
       kept = subst (λ (j : List Event). Kept old.start t j old.seat.notes) (sym c.push.ensures.entries) kept;
       goes_on = λ on. absurd (no Budget (sym over ∙ on));
       frames = c.close.ensures.frames;
+      used = c.close.ensures.used;
       at_home = k.at_home;
       no_policy = k.no_policy;
       unloads = omega (arith, same, room, c.push.ensures.room);

@@ -26,6 +26,7 @@ use Rattle.wire_queue.specs.PassLists.{IsListOf}
 use Rattle.base_words.specs.declared.events.Event.{Event}
 use Rattle.guest_core.specs.Wiring.{IsWired, Posted}
 use Rattle.guest_core.proofs.HandProofs.{wired-again}
+use Rattle.guest_core.proofs.UsingProofs.{uses-row}
 use Rattle.guest_core.proofs.WiringProofs.{SendLaws, TakeLaws, posted-out, quiet-one, quiet-step, posts-concluded, sent-guest, same-ends, fits-out, there-out}
 use Rattle.guest_core.proofs.parts.Parts.enter.Goals as goal
 
@@ -54,6 +55,7 @@ returns-in-Direct-clause-kept g c =
       kept = of-these old.start m _ _ _ _ (c.push_direct.ensures.entries ∙ ap (λ (p : ProcId). old.journal.entries ++ Direct p v ∷ []) same) (ap (λ (x : Seat). x.notes) c.note.ensures.seat ∙ ap (λ (p : ProcId). old.seat.notes ++ sided q.0 (Made (Direct p v)) ∷ []) same) kept;
       goes_on = λ on. subst (λ a. GoesOnThen m (Ok a)) c.in-Direct.is c.in_ok-access.ensures.goes_on;
       frames = frames-stay s m _ (c.exchanges.ensures.steps s m q.0 v.0 did.row) (w.around s m (Direct q v) did.row) ((subst (λ a. GoesOnThen m (Ok a)) c.in-Direct.is c.in_ok-access.ensures.goes_on).not_ended ∙ sym did.row.goes_on.not_ended) k.frames;
+      used = uses-row w s m (Direct q v) old.uses did.row (c.exchanges.ensures.steps s m q.0 v.0 did.row) (λ r. refl) k.used;
       at_home = k.at_home;
       no_policy = k.no_policy;
       unloads = omega (arith, loads, room, c.push_direct.ensures.room);
@@ -100,6 +102,7 @@ returns-in-Refill-clause-kept g c =
       kept = of-these old.start m _ _ _ _ (c.push.ensures.entries ∙ ap (λ (p : ProcId). old.journal.entries ++ Refill p ∷ []) same) refl kept;
       goes_on = λ on. subst (λ a. GoesOnThen m (Ok a)) c.in-Refill.is c.in_ok-access.ensures.goes_on;
       frames = frames-stay s m _ (c.exchanges.ensures.refills s m q.0 did) (w.around s m (Refill q) did) (ap (λ (x : GuestState). x.end) did.after) k.frames;
+      used = uses-row w s m (Refill q) old.uses did (c.exchanges.ensures.refills s m q.0 did) (λ r. refl) k.used;
       at_home = k.at_home;
       no_policy = k.no_policy;
       unloads = omega (arith, loads, room, c.push.ensures.room);
@@ -146,6 +149,18 @@ conclude-requires-clause-frames g c =
     let did : Emulates s q.0 v.0 m = subst (λ (n : ℕ). Advances s n v.0 m (Ok (advances.Emulate c.in-Emulate.out))) c.number-processor.ensures (subst (λ a. Advances s c.number-processor.result.0 v.0 m (Ok a)) c.in-Emulate.is c.in_ok-access.ensures.advances) in
     frames-stay s m old.holder.view (c.exchanges.ensures.emulates s m q.0 v.0 did) (c.row_keeps.ensures.around s m (Emulate q v) (inl did)) (emulate-end s m q.0 v.0 did ∙ sym did.traps.goes_on.not_ended) c.requires.kept.frames
 
+pub conclude-requires-clause-used : goal.conclude-requires-clause-used
+conclude-requires-clause-used g c =
+    let old = c.args.self.now in
+    let token : Token = c.args.token.now in
+    let s = state_of old.course in
+    let m = state_of c.advance.new.course in
+    let q : ProcId = processor_of token in
+    let v = c.args.vcpu in
+    let w : Laws = record { halts = c.halts_stay.ensures.row; count = c.halts_stay.ensures.count; processors = c.halts_stay.ensures.processors; loaded = c.halts_stay.ensures.loaded; grows = c.run_grows.ensures.row; around = c.row_keeps.ensures.around } in
+    let did : Emulates s q.0 v.0 m = subst (λ (n : ℕ). Advances s n v.0 m (Ok (advances.Emulate c.in-Emulate.out))) c.number-processor.ensures (subst (λ a. Advances s c.number-processor.result.0 v.0 m (Ok a)) c.in-Emulate.is c.in_ok-access.ensures.advances) in
+    uses-row w s m (Emulate q v) old.uses (inl did) (c.exchanges.ensures.emulates s m q.0 v.0 did) (λ r. refl) c.requires.kept.used
+
 pub returns-in-Emulate-clause-kept : goal.returns-in-Emulate-clause-kept
 returns-in-Emulate-clause-kept g c =
     let old = c.args.self.now in
@@ -175,6 +190,7 @@ returns-in-Emulate-clause-kept g c =
       kept = of-these old.start t _ _ _ _ (c.conclude.ensures.entries ∙ ap (λ (p : ProcId). old.journal.entries ++ step_entries p v halted) same) (ap (λ (x : Seat). x.notes) c.note-in-Emulate.ensures.seat ∙ ap (λ (p : ProcId). old.seat.notes ++ sided q.0 (Made (Emulate p v)) ∷ []) same) kept;
       goes_on = λ on. goes-on halted m t refl (emulate-end s m q.0 v.0 did) refl ends on;
       frames = c.conclude.ensures.frames;
+      used = c.conclude.ensures.used;
       at_home = k.at_home;
       no_policy = k.no_policy;
       unloads = omega (arith, loads, loads', room, c.conclude.ensures.room);

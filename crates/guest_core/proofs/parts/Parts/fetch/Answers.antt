@@ -9,6 +9,7 @@ use Rattle.guest_course.specs.declared.course.Course.{Course}
 use Rattle.guest_core.specs.GuestView.{loaded_count}
 use Rattle.guest_core.specs.Wiring.{IsWired}
 use Rattle.guest_core.proofs.HandProofs.{kept-comes, goes-comes, frames-come, wired-again}
+use Rattle.guest_core.proofs.UsingProofs.{uses-come}
 use Rattle.guest_core.proofs.WiringProofs.{TakeLaws, posted-comes}
 use Rattle.guest_core.proofs.parts.Parts.fetch.Goals as goal
 
@@ -31,6 +32,7 @@ returns-in-Some-clause-kept g c =
       kept = kept-comes c.run_grows.ensures.hand old.start s t old.journal.entries old.seat.notes k.kept comes;
       goes_on = λ on. goes-comes s t comes;
       frames = frames-come s t old.holder.view k.frames comes;
+      used = uses-come s t old.uses k.used comes;
       at_home = k.at_home;
       no_policy = k.no_policy;
       unloads = subst (λ (x : GuestState). loaded_count x ≤ old.journal.room) (sym comes.after) k.unloads;

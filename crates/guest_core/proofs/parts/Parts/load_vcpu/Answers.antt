@@ -30,6 +30,7 @@ returns-in-Some-clause-kept c =
       kept = subst (λ (l : List SidedNote). Kept old.start s old.journal.entries l) (sym (ap (λ (x : Seat). x.notes) c.note.ensures.seat)) kept;
       goes_on = k.goes_on;
       frames = k.frames;
+      used = k.used;
       at_home = k.at_home;
       no_policy = k.no_policy;
       unloads = k.unloads;
@@ -63,6 +64,7 @@ returns-clause-kept c =
           (subst (λ (l : List SidedNote). Kept old.start t (old.journal.entries ++ Load p v ∷ []) l) (sym (ap (λ (x : Seat). x.notes) c.note-2.ensures.seat ∙ ap (λ (side : ℕ). old.seat.notes ++ sided side (Made (Load p v)) ∷ []) (sym c.number-processor.ensures))) kept);
       goes_on = λ on. c.load.ensures.goes_on;
       frames = frames-stay s t _ (c.exchanges.ensures.loads s t p.0 v.0 row) (w.around s t (Load p v) row) (ap (λ (x : GuestState). x.end) row.after) k.frames;
+      used = c.count_load.ensures v.0 t row;
       at_home = k.at_home;
       no_policy = k.no_policy;
       unloads = omega (arith, more, room, c.push.ensures.room);

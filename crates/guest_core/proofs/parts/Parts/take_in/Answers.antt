@@ -10,6 +10,7 @@ use Rattle.guest_core.specs.Wiring.{Posted}
 use Rattle.guest_core.proofs.HoldingLemmas.{frames-stay}
 use Rattle.guest_core.proofs.KeptProofs.{Laws, kept-none, receive-leaves, as-many}
 use Rattle.guest_core.proofs.RoomLemmas.{two-entries}
+use Rattle.guest_core.proofs.UsingProofs.{uses-row}
 use Rattle.guest_core.proofs.WiringProofs.{TakeLaws, posted-received}
 use Rattle.guest_core.proofs.parts.Parts.take_in.Goals as goal
 
@@ -34,6 +35,7 @@ returns-clause-kept c =
       kept = subst (λ (j : List Event). Kept old.start t j old.seat.notes) (sym entries) kept;
       goes_on = λ on. c.receive.ensures.goes_on;
       frames = frames-stay s t _ (c.exchanges.ensures.receives s t place row) (w.around s t (PacketIn place) (inl row)) (ap (λ (x : GuestState). x.end) row.after) k.frames;
+      used = uses-row w s t (PacketIn place) old.uses (inl row) (c.exchanges.ensures.receives s t place row) (λ r. refl) k.used;
       at_home = k.at_home;
       no_policy = k.no_policy;
       unloads = omega (arith, loads, room, c.push.ensures.room);

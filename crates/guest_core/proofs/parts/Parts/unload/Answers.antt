@@ -46,6 +46,7 @@ returns-clause-kept c =
       kept = subst (λ (j : List Event). Kept old.start t j c.note.new.seat.notes) (sym c.push.ensures.entries) (subst (λ (l : List SidedNote). Kept old.start t (old.journal.entries ++ Unload p ∷ []) l) (sym (ap (λ (x : Seat). x.notes) c.note.ensures.seat ∙ ap (λ (side : ℕ). old.seat.notes ++ sided side (Made (Unload p)) ∷ []) (sym c.number-processor.ensures))) kept);
       goes_on = λ on. c.unload.ensures.goes_on (k.goes_on (sym (ap (λ (x : GuestState). x.end) c.unload.ensures.unloads.after) ∙ on));
       frames = frames-stay s t _ (c.exchanges.ensures.unloads s t p.0 c.unload.ensures.unloads) (w.around s t (Unload p) c.unload.ensures.unloads) (ap (λ (x : GuestState). x.end) c.unload.ensures.unloads.after) k.frames;
+      used = c.count_unload.ensures t row;
       at_home = k.at_home;
       no_policy = k.no_policy;
       unloads = omega (arith, less, room, c.push.ensures.room);

@@ -1,0 +1,19 @@
+use Rattle.std.proofs.Common.{map}
+use Rattle.machine_desc.specs.Described.{described_seen}
+use Rattle.run_workers.specs.Booting.{start_of}
+use Rattle.run_workers.proofs.BootLemmas.{sources-count}
+use Rattle.run_workers.proofs.TopLemmas.{may-run, all-starts}
+use Rattle.run_workers.proofs.running.finish.Goals as goal
+
+pub run_named-requires-clause-may : goal.run_named-requires-clause-may
+run_named-requires-clause-may g c κs within =
+    let d = described_seen c.args.machine.now c.args.plan.now in
+    may-run d c.args.sources c.in_ok-booted.booted.guests.items c.in_ok-booted.booted.tokens (record { table = c.in_ok-booted.booted.table; wires = c.in_ok-booted.booted.wires }) c.in_ok-booted.booted.holder c.requires.described (sources-count c.args.machine.now.guests c.args.sources c.requires.sources) c.in_ok-booted.ensures.booted
+
+pub returns-clause-run : goal.returns-clause-run
+returns-clause-run g c =
+    let d = described_seen c.args.machine.now c.args.plan.now in
+    let guests = c.in_ok-booted.booted.guests.items in
+    let many = sources-count c.args.machine.now.guests c.args.sources c.requires.sources in
+    let starts = all-starts d c.args.sources guests c.in_ok-booted.booted.tokens (record { table = c.in_ok-booted.booted.table; wires = c.in_ok-booted.booted.wires }) c.in_ok-booted.booted.holder c.requires.described many c.in_ok-booted.ensures.booted in
+    (map start_of guests, starts, c.in_ok-record.ensures.run)
