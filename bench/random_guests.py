@@ -1,0 +1,144 @@
+#!/usr/bin/env python3
+"""Random guests, run by disco and by an interpreter that knows nothing of it, and their reports compared.
+
+    python3 bench/random_guests.py DISCO [RUNS] [SEED]
+
+DISCO is the built program. Run number n of RUNS (100 if none is given) is that of the seed SEED + n (SEED is 0 if none is given), so each
+can be repeated alone. A run is a machine with one to eight guests, their disks, their input and a plan. The guests do all that a guest can
+do: instructions on values near an edge, accesses to everywhere, exceptions, their own TLB, user code, interrupts, disk commands, packets.
+Each run is made by `disco --private` and by `disco --machine`, and each report is compared byte by byte: consoles, ends, and under
+`--machine` the steps, the refills and the packets received. Where a plan leaves it open when a packet arrives the latter isn't compared.
+
+On a difference its seed is named, its folder is kept, the place where the reports part is shown, and the end is 1.
+"""
+
+from __future__ import annotations
+
+import pathlib
+import shutil
+import subprocess
+import sys
+import tempfile
+from dataclasses import dataclass, field
+
+from generator.scenario import Scenario, scenario
+from reference import Coverage, Monitor, private_report
+from reference.exceptions import Code
+from reference.opcode_maps import ENCODINGS
+
+RUNS = 100
+DESCRIPTION = "machine.toml"
+SHOWN = 60  # bytes on each side of where two reports part
+SECONDS = 120  # after which a run of disco is given up
+
+
+@dataclass
+class Totals:
+    """What was compared."""
+
+    runs: int = 0
+    open_runs: int = 0
+    guests: int = 0
+    halted: int = 0
+    steps: int = 0
+    refills: int = 0
+    received: int = 0
+    coverage: Coverage = field(default_factory=Coverage.none)
+
+    def add(self, monitor: Monitor) -> None:
+        self.runs += 1
+        self.open_runs += monitor.is_open
+        self.guests += len(monitor.guests)
+        self.halted += sum(monitored.guest.has_halted() for monitored in monitor.guests)
+        self.steps += sum(monitored.steps for monitored in monitor.guests)
+        self.refills += sum(monitored.tlb.refills for monitored in monitor.guests)
+        self.received += sum(monitored.received for monitored in monitor.guests)
+        self.coverage.add(monitor.coverage())
+
+    def line(self) -> str:
+        kinds = sum(name in self.coverage.instructions for name in ENCODINGS)
+        return (
+            f"{self.runs} runs ({self.open_runs} of them alone only), {self.guests} guests ({self.halted} halted), {self.steps} steps, "
+            f"{self.refills} refills, {self.received} packets, {kinds} of {len(ENCODINGS)} kinds of instructions, "
+            f"{len(self.coverage.exceptions)} of {len(Code)} kinds of exceptions"
+        )
+
+
+def write_files(folder: pathlib.Path, made: Scenario) -> None:
+    (folder / DESCRIPTION).write_bytes(made.description())
+    for name, content in made.files.items():
+        (folder / name).write_bytes(content)
+
+
+def report_of_disco(disco: pathlib.Path, option: str, folder: pathlib.Path) -> bytes:
+    """What disco prints; where its status isn't 0, that comes first."""
+    try:
+        done = subprocess.run([disco, option, DESCRIPTION], cwd=folder, capture_output=True, timeout=SECONDS)
+    except subprocess.TimeoutExpired:
+        return f"no end within {SECONDS} seconds\n".encode()
+    status = b"" if done.returncode == 0 else f"status {done.returncode}\n".encode()
+    return status + done.stdout + done.stderr
+
+
+def parting(expected: bytes, found: bytes) -> str:
+    """The place where two reports part, and what each has there."""
+    shorter = min(len(expected), len(found))
+    place = next((place for place in range(shorter) if expected[place] != found[place]), shorter)
+    begin = max(place - SHOWN, 0)
+    guest = expected[:place].count(b"\nguest ") + expected.startswith(b"guest ") - 1
+    return (
+        f"  from byte {place} on (guest {guest}), shown from byte {begin} on\n"
+        f"  interpreter: {expected[begin : place + SHOWN]!r}\n"
+        f"  disco:       {found[begin : place + SHOWN]!r}"
+    )
+
+
+def differences(disco: pathlib.Path, folder: pathlib.Path, made: Scenario, monitor: Monitor) -> list[str]:
+    """Runs disco both ways; says where its reports aren't what the interpreter has."""
+    alone = private_report(made.starts, made.plan) if monitor.packets_arrived() else monitor.report_without_sums()
+    expected = {"--private": alone}
+    if not monitor.is_open:
+        expected["--machine"] = monitor.report()
+    told = []
+    for option, report in expected.items():
+        found = report_of_disco(disco, option, folder)
+        if found != report:
+            (folder / f"expected{option}").write_bytes(report)
+            (folder / f"found{option}").write_bytes(found)
+            told.append(f"{option}\n{parting(report, found)}")
+    return told
+
+
+def compare(disco: pathlib.Path, seed: int, totals: Totals) -> bool:
+    """Whether the reports of a seed's run are equal. The folder of one that isn't is kept."""
+    made = scenario(seed)
+    monitor = Monitor(made.starts, made.hosts)
+    monitor.carry_out(made.plan)
+    totals.add(monitor)
+    folder = pathlib.Path(tempfile.mkdtemp(prefix=f"random_guests_{seed}_"))
+    write_files(folder, made)
+    told = differences(disco, folder, made, monitor)
+    if not told:
+        shutil.rmtree(folder)
+        return True
+    print(f"seed {seed}: the reports differ, see {folder}")
+    for text in told:
+        print(f"  {text}", flush=True)
+    return False
+
+
+def main(arguments: list[str]) -> int:
+    if not 1 <= len(arguments) <= 3:
+        sys.exit("usage: random_guests.py DISCO [RUNS] [SEED]")
+    disco = pathlib.Path(arguments[0]).resolve()
+    runs = int(arguments[1]) if len(arguments) > 1 else RUNS
+    first = int(arguments[2]) if len(arguments) > 2 else 0
+    totals = Totals()
+    differ = sum(not compare(disco, seed, totals) for seed in range(first, first + runs))
+    verdict = f"{differ} of the runs differ" if differ else "all equal"
+    print(f"{totals.line()}: {verdict}")
+    return 1 if differ else 0
+
+
+if __name__ == "__main__":
+    sys.exit(main(sys.argv[1:]))

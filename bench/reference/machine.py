@@ -1,0 +1,120 @@
+"""A guest as it sees itself: memory, virtual processors and devices, and the step of a virtual processor."""
+
+from __future__ import annotations
+
+from collections import Counter
+from dataclasses import dataclass
+
+from .devices import PAGE, Devices, Input
+from .exceptions import Code, GuestException, coprocessor_unusable
+from .instructions import Decoded
+from .opcode_maps import decode
+from .processor import VirtualProcessor
+from .tlb import Entry
+
+DEVICE_PAGE = 0xFFFF
+
+
+@dataclass(frozen=True)
+class Start:
+    """What a guest is started from. The image lies at the beginning of its memory, and zeros behind it."""
+
+    image: bytes
+    entry: int
+    pages: int
+    processors: int
+    disk: bytes | None = None
+    inputs: tuple[Input, ...] = ()
+
+
+class Watcher:
+    """Who is told of what the guest doesn't see itself. This one does nothing."""
+
+    def fetched(self, processor: VirtualProcessor, address: int) -> None:
+        """The virtual processor may fetch at this address, and memory is there."""
+
+    def accessed(self, processor: VirtualProcessor, address: int) -> None:
+        """It may access data at this address, and memory is there."""
+
+    def tlb_written(self, processor: VirtualProcessor, old: Entry, new: Entry) -> None:
+        """An entry of its TLB is replaced."""
+
+
+@dataclass
+class Coverage:
+    """What was carried out: how often each instruction, and how often each exception came."""
+
+    instructions: Counter[str]
+    exceptions: Counter[Code]
+
+    @staticmethod
+    def none() -> Coverage:
+        return Coverage(Counter(), Counter())
+
+    def add(self, other: Coverage) -> None:
+        self.instructions += other.instructions
+        self.exceptions += other.exceptions
+
+
+class Guest:
+    """A guest from its boot on."""
+
+    def __init__(self, start: Start, watcher: Watcher) -> None:
+        self.pages = start.pages
+        self.memory = bytearray(start.image.ljust(PAGE * start.pages, b"\0"))
+        self.processors = [VirtualProcessor(self, number, start.entry) for number in range(start.processors)]
+        self.devices = Devices(self, start.disk, start.inputs)
+        self.watcher = watcher
+        self.coverage = Coverage.none()
+
+    # memory
+
+    def has_memory(self, place: int) -> bool:
+        return place >> 12 < self.pages
+
+    def is_device(self, place: int) -> bool:
+        return place >> 12 == DEVICE_PAGE
+
+    def word(self, place: int) -> int:
+        return int.from_bytes(self.memory[place : place + 4], "big")
+
+    def page(self, number: int) -> bytes:
+        return bytes(self.memory[PAGE * number : PAGE * (number + 1)])
+
+    def replace_page(self, number: int, data: bytes) -> None:
+        """A device writes the first bytes of a page, and all links into the page are cleared."""
+        self.memory[PAGE * number : PAGE * number + len(data)] = data
+        for processor in self.processors:
+            if processor.link is not None and processor.link * 32 // PAGE == number:
+                processor.link = None
+
+    # steps
+
+    def has_halted(self) -> bool:
+        return all(processor.halted for processor in self.processors)
+
+    def step(self, number: int) -> None:
+        """One step of a virtual processor: an interrupt, or else the instruction or its first fault; then the clock."""
+        processor = self.processors[number]
+        if processor.halted:
+            return
+        if number == 0:
+            self.devices.join_input(processor.steps)
+        try:
+            if processor.coprocessor.interrupt_comes():
+                raise GuestException(Code.INT)
+            self.execute(processor, decode(processor.fetch()))
+        except GuestException as raised:
+            self.coverage.exceptions[raised.code] += 1
+            processor.pc = processor.coprocessor.enter(raised, processor.pc, processor.slot is not None)
+            processor.slot = None
+        processor.coprocessor.tick()
+        processor.steps += 1
+
+    def execute(self, processor: VirtualProcessor, word: Decoded) -> None:
+        """The instruction that was fetched. Whether user code may use its coprocessor is asked before anything else."""
+        if word.needs_kernel and processor.coprocessor.in_user_mode():
+            raise coprocessor_unusable(0)
+        self.coverage.instructions[word.name] += 1
+        after = word.execute(processor, word)
+        processor.pc, processor.slot = processor.following() if after is None else after

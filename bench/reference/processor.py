@@ -1,0 +1,189 @@
+"""A virtual processor: its registers, where it goes on, and what its instructions ask of memory."""
+
+from __future__ import annotations
+
+from typing import TYPE_CHECKING
+
+from .coprocessor import Coprocessor0
+from .devices import Transfer
+from .exceptions import Code, GuestException
+from .tlb import Entry, Tlb, Use, entry_of, physical
+from .words import WORD
+
+if TYPE_CHECKING:
+    from .machine import Guest
+
+RETURN_ADDRESS = 31
+
+Place = tuple[int, int | None]  # a program counter, and in a delay slot the address after it
+
+
+class VirtualProcessor:
+    """A virtual processor as a guest's boot leaves it, from its entry on."""
+
+    def __init__(self, guest: Guest, number: int, entry: int) -> None:
+        self.guest = guest
+        self.number = number
+        self.registers = [0] * 32
+        self.hi = 0
+        self.lo = 0
+        self.pc = entry
+        self.slot: int | None = None
+        self.coprocessor = Coprocessor0()
+        self.tlb = Tlb()
+        self.link: int | None = None  # a line of the guest's physical memory
+        self.halted = False
+        self.steps = 0
+        self.transfer = Transfer()
+
+    # registers and the program counter
+
+    def write(self, register: int, value: int) -> None:
+        """Register 0 stays 0."""
+        if register:
+            self.registers[register] = value & WORD
+
+    def following(self) -> Place:
+        """Where an instruction that doesn't branch goes on."""
+        return (self.pc + 4 & WORD if self.slot is None else self.slot), None
+
+    def jump(self, target: int) -> Place:
+        """The next instruction is in the delay slot, and the target comes after it. No branch stands in a delay slot."""
+        self.refuse_in_slot()
+        return self.pc + 4 & WORD, target & WORD
+
+    def branch(self, taken: bool, target: int, likely: bool) -> Place:
+        """The delay slot is done in any case, but for a likely branch that isn't taken, which skips it."""
+        if taken:
+            return self.jump(target)
+        if not likely:
+            return self.jump(self.pc + 8)
+        self.refuse_in_slot()
+        return self.pc + 8 & WORD, None
+
+    def link_return(self) -> None:
+        """The address behind the delay slot is where a call returns to."""
+        self.write(RETURN_ADDRESS, self.pc + 8)
+
+    def refuse_in_slot(self) -> None:
+        if self.slot is not None:
+            raise GuestException(Code.RI)
+
+    def return_from_exception(self) -> Place:
+        """ERET ends a link too."""
+        self.refuse_in_slot()
+        self.link = None
+        return self.coprocessor.return_from_exception(), None
+
+    # memory
+
+    def physical(self, address: int, use: Use, size: int) -> int:
+        coprocessor = self.coprocessor
+        return physical(self.tlb, coprocessor.asid, coprocessor.in_user_mode(), address, use, size)
+
+    def fetch(self) -> int:
+        """The word at the program counter."""
+        place = self.physical(self.pc, Use.FETCH, 4)
+        if not self.guest.has_memory(place):
+            raise GuestException(Code.IBE)
+        self.guest.watcher.fetched(self, self.pc)
+        return self.guest.word(place)
+
+    def memory_place(self, address: int, use: Use, size: int) -> int:
+        """Where the data at an address lies in memory."""
+        return self.granted(self.physical(address, use, size), address)
+
+    def granted(self, place: int, address: int) -> int:
+        """A place of memory; a bus error where there is none."""
+        if not self.guest.has_memory(place):
+            raise GuestException(Code.DBE)
+        self.guest.watcher.accessed(self, address)
+        return place
+
+    def load(self, address: int, size: int) -> int:
+        """So many bytes at an address, most significant byte first, as a number."""
+        place = self.memory_place(address, Use.LOAD, size)
+        return int.from_bytes(self.guest.memory[place : place + size], "big")
+
+    def load_word(self, address: int) -> int:
+        """LW, which reaches the device page too."""
+        place = self.physical(address, Use.LOAD, 4)
+        if not self.guest.is_device(place):
+            return self.guest.word(self.granted(place, address))
+        value = self.guest.devices.load(self, place & 0xFFF)
+        if value is None:
+            raise GuestException(Code.DBE)
+        return value
+
+    def load_word_around(self, address: int) -> int:
+        """The aligned word in which the byte at an address lies."""
+        place = self.memory_place(address, Use.LOAD, 1)
+        return self.guest.word(place & ~3)
+
+    def load_linked(self, address: int) -> int:
+        place = self.memory_place(address, Use.LOAD, 4)
+        self.link = line_of(place)
+        return self.guest.word(place)
+
+    def store(self, address: int, size: int, value: int) -> None:
+        """The lowest bytes of a register, most significant byte first."""
+        place = self.memory_place(address, Use.STORE, size)
+        self.write_memory(place, (value & (1 << 8 * size) - 1).to_bytes(size, "big"))
+
+    def store_word(self, address: int, value: int) -> None:
+        """SW, which reaches the device page too."""
+        place = self.physical(address, Use.STORE, 4)
+        if not self.guest.is_device(place):
+            self.write_memory(self.granted(place, address), value.to_bytes(4, "big"))
+        elif not self.guest.devices.store(self, place & 0xFFF, value):
+            raise GuestException(Code.DBE)
+
+    def store_left(self, address: int, value: int) -> None:
+        """SWL: the register's highest bytes, from the address to the end of its word."""
+        place = self.memory_place(address, Use.STORE, 1)
+        self.write_memory(place, value.to_bytes(4, "big")[: 4 - place % 4])
+
+    def store_right(self, address: int, value: int) -> None:
+        """SWR: the register's lowest bytes, from the beginning of the address's word to the address."""
+        place = self.memory_place(address, Use.STORE, 1)
+        self.write_memory(place - place % 4, value.to_bytes(4, "big")[3 - place % 4 :])
+
+    def store_conditional(self, address: int, value: int) -> bool:
+        """Whether the link was to the address's line, and the word is stored. The link is cleared; a fault leaves it."""
+        place = self.memory_place(address, Use.STORE, 4)
+        linked = self.link == line_of(place)
+        self.link = None
+        if linked:
+            self.write_memory(place, value.to_bytes(4, "big"))
+        return linked
+
+    def write_memory(self, place: int, data: bytes) -> None:
+        """A store into a line clears the links of the other virtual processors to it."""
+        self.guest.memory[place : place + len(data)] = data
+        for other in self.guest.processors:
+            if other is not self and other.link == line_of(place):
+                other.link = None
+
+    # the TLB
+
+    def write_tlb(self, index: int) -> None:
+        """TLBWI and TLBWR: past the last entry nothing is written."""
+        if index >= len(self.tlb.entries):
+            return
+        old = self.tlb.read(index)
+        new = entry_of(self.coprocessor.entry_hi, *self.coprocessor.entry_lo)
+        self.tlb.write(index, new)
+        self.guest.watcher.tlb_written(self, old, new)
+
+    def read_tlb(self, index: int) -> None:
+        entry: Entry = self.tlb.read(index)
+        self.coprocessor.write_entry_hi(entry.hi)
+        self.coprocessor.entry_lo = [entry.lo0, entry.lo1]
+
+    def probe_tlb(self) -> None:
+        self.coprocessor.index = self.tlb.probe(self.coprocessor.entry_hi)
+
+
+def line_of(place: int) -> int:
+    """A line has 32 bytes."""
+    return place >> 5
