@@ -1,5 +1,5 @@
 -- A packet comes to hand: the guest is kept as it was, but for the packet.
-use Rattle.std.proofs.Common.{◌≡◌, ◌<◌, List, length, refl, sym, ap, ◌∙◌, subst}
+use Rattle.std.proofs.Common.{◌≡◌, ◌<◌, List, length, sym, ap, ◌∙◌, subst}
 use Rattle.base_words.specs.declared.events.Event.{Event}
 use Rattle.frame_words.specs.declared.view.View.{View}
 use Rattle.shootdown.specs.declared.view.SidedNote.{SidedNote}
@@ -12,7 +12,7 @@ use Rattle.isolation_law.specs.Surroundings.{Surroundings}
 use Rattle.wire_queue.specs.Between.{Made, guest_count}
 use Rattle.wire_queue.specs.PassLists.{IsListOf}
 use Rattle.wire_queue.specs.declared.lists.PassList.{PassList}
-use Rattle.guest_core.specs.Holding.{IsHolding, HasFrames}
+use Rattle.guest_core.specs.Holding.{HasFrames}
 use Rattle.guest_core.specs.Kept.{Kept}
 use Rattle.guest_core.specs.Noting.{IsNoted}
 use Rattle.guest_core.specs.Wiring.{IsWired}

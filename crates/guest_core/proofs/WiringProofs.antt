@@ -1,5 +1,5 @@
 -- A guest's ends of its wires stay in step with what it sends and takes.
-use Rattle.std.proofs.Common.{◌≡◌, ◌≢◌, ℕ, zero, suc, ◌<◌, ◌≤◌, ◌+◌, ◌==◌, if◌then◌else◌, Bool, true, false, List, [], ◌∷◌, ◌++◌, All, Option, None, Some, IsSome, IfSome, option_map, length, map, filter, flat_map, get_or, unwrap_or, cond, refl, sym, ap, ◌∙◌, subst, arith}
+use Rattle.std.proofs.Common.{◌≡◌, ◌≢◌, ℕ, zero, suc, ◌<◌, ◌≤◌, ◌==◌, if◌then◌else◌, Bool, true, false, List, [], ◌∷◌, ◌++◌, All, Option, None, Some, IsSome, IfSome, option_map, length, map, filter, flat_map, get_or, unwrap_or, cond, refl, sym, ap, ◌∙◌, subst, arith}
 use Rattle.std.proofs.lemmas.List.{append-nil, map-append, length-map}
 use Rattle.std.proofs.lemmas.List.Elements.{All-nil, All-cons, All-append, filter-append}
 use Rattle.std.proofs.lemmas.Bool.{eqb-true, eqb-false}
@@ -26,8 +26,8 @@ use Rattle.wire_queue.specs.Ends.{Wire, Sending, Taking}
 use Rattle.wire_queue.specs.ListSteps.{SameEnds, SendsTo, TakesFrom}
 use Rattle.wire_queue.specs.Lines.{Fits}
 use Rattle.wire_queue.specs.Packets.{packet_of}
-use Rattle.wire_queue.specs.PassLists.{IsListOf, IsUnused, JoinsAll, sending_wire, taking_wire, sending_to, taking_from}
-use Rattle.wire_queue.specs.Steps.{SentBy, TakenBy}
+use Rattle.wire_queue.specs.PassLists.{IsListOf, IsUnused, sending_wire, taking_wire, sending_to, taking_from}
+use Rattle.wire_queue.specs.Steps.{SentBy}
 use Rattle.wire_queue.specs.declared.lists.PassList.{PassList}
 use Rattle.wire_queue.specs.declared.packet.WirePacket.{WirePacket}
 use Rattle.wire_queue.specs.declared.wires.Sent.{Sent}

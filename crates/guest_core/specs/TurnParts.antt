@@ -10,29 +10,25 @@ use Rattle.isolation_law.specs.StepRows.{Emulates}
 use Rattle.isolation_law.specs.WireHistory.{sent_to}
 use Rattle.guest_course.specs.declared.posting.Outgoing.{Outgoing}
 use Rattle.guest_course.specs.Posting.{IsOther, put_on, Goes}
-use Rattle.guest_course.specs.StepCalls.{StepsDirect}
-use Rattle.guest_core.specs.declared.advancing.Advanced.{Advanced}
-use Rattle.guest_core.specs.declared.advancing.Advanced.TheVariants as advances
+use Rattle.guest_core.specs.declared.serving.Served.{Served}
+use Rattle.guest_core.specs.declared.serving.Served.TheVariants as serves
 
--- the entry that was made, or none
-abbrev pub Advances : GuestState → ℕ → ℕ → GuestState → Result Advanced AllocError → Type 0
-Advances s p v t (Ok (advances.Direct access)) = StepsDirect s p v t access
-Advances s p v t (Ok advances.Refill) = Refills s p t
-Advances s p v t (Ok (advances.Emulate out)) = Emulates s p v t
-Advances s p v t (Err e) = t ≡ s
+-- the entry that was made for a trap, or none
+abbrev pub Serves : GuestState → ℕ → ℕ → GuestState → Result Served AllocError → Type 0
+Serves s p v t (Ok serves.Refill) = Refills s p t
+Serves s p v t (Ok (serves.Emulate out)) = Emulates s p v t
+Serves s p v t (Err e) = t ≡ s
 
--- a guest goes on after a step that a processor makes by itself, after a refill, and where memory is wanting
-abbrev pub GoesOnThen : GuestState → Result Advanced AllocError → Type 0
-GoesOnThen t (Ok (advances.Direct access)) = GoesOn t
-GoesOnThen t (Ok advances.Refill) = GoesOn t
-GoesOnThen t (Ok (advances.Emulate out)) = Unit {0}
+-- a guest goes on after a refill, and where memory is wanting
+abbrev pub GoesOnThen : GuestState → Result Served AllocError → Type 0
+GoesOnThen t (Ok serves.Refill) = GoesOn t
+GoesOnThen t (Ok (serves.Emulate out)) = Unit {0}
 GoesOnThen t (Err e) = GoesOn t
 
 -- what goes on a wire by it
-abbrev pub out_of : Result Advanced AllocError → Option Outgoing
-out_of (Ok (advances.Direct access)) = None
-out_of (Ok advances.Refill) = None
-out_of (Ok (advances.Emulate out)) = out
+abbrev pub out_of : Result Served AllocError → Option Outgoing
+out_of (Ok serves.Refill) = None
+out_of (Ok (serves.Emulate out)) = out
 out_of (Err e) = None
 
 -- to each other guest was sent just what goes on its wire, and nothing was taken

@@ -183,6 +183,7 @@ impl Guest {
 
     /// Takes the next packet in hand where the guest hasn't ended, a page is armed, and none is in hand, and copies the one in hand into
     /// that page. Memory is wanted for the copy that is kept of it; it stays in hand then. It may wait for a wire.
+    #[inline]
     pub fn packet_in<R: Wait>(
         &mut self,
         rt: &R,

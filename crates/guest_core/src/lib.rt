@@ -1,7 +1,6 @@
 //! A guest under the monitor: one event a call, with the run of its journal in its type.
 #![tactic(auto)]
 
-mod advancing;
 mod answers;
 mod booting;
 mod ending;
@@ -13,6 +12,7 @@ mod receiving;
 mod records;
 mod releasing;
 mod resources;
+mod serving;
 mod start;
 mod turning;
 mod using;

@@ -86,6 +86,34 @@ impl Parts {
     }
 
     /// Takes the next packet in hand where none is, and copies the one in hand into the page that is armed.
+    #[cold]
+    #[inline(never)]
+    fn take_next<R: Wait>(
+        &mut self,
+        rt: &R,
+        alloc: Global,
+        resources: &Resources,
+    ) -> Result<Packeted, AllocError>
+        requires kept { IsKept self.old }
+        requires wires { (guest_of self.old).wires ≡ resources.now.wires.now }
+        requires room { 2 ≤ (guest_of self.old).room }
+        requires armed { IsArmed (guest_of self.old) }
+        ensures kept { IsKept self.new }
+        ensures takes { TakesPacket (guest_of self.old) (guest_of self.new) result }
+        ensures sends { SameSends (guest_of self.old).passes (guest_of self.new).passes }
+        ensures same { IsSameGuest (guest_of self.old) (guest_of self.new) }
+        ensures room { (guest_of self.old).room ≤ (guest_of self.new).room + 2 }
+    {
+        self.fetch(rt, resources);
+        if self.course.hand.is_none() {
+            return Ok(Packeted::NoneInHand);
+        }
+        self.take_in(alloc)?;
+        Ok(Packeted::Delivered)
+    }
+
+    /// Takes the next packet in hand where none is, and copies the one in hand into the page that is armed, where one is.
+    #[inline]
     pub(crate) fn packet_in<R: Wait>(
         &mut self,
         rt: &R,
@@ -104,11 +132,6 @@ impl Parts {
         if !self.is_armed() {
             return Ok(Packeted::NotArmed);
         }
-        self.fetch(rt, resources);
-        if self.course.hand.is_none() {
-            return Ok(Packeted::NoneInHand);
-        }
-        self.take_in(alloc)?;
-        Ok(Packeted::Delivered)
+        self.take_next(rt, alloc, resources)
     }
 }

@@ -6,6 +6,7 @@ ghost use Rattle.isolation_law.specs.GuestState.{processor as processor_at};
 ghost use Rattle.isolation_law.specs.Phases.{all_halted};
 ghost use Rattle.guest_course.specs.CourseView.{state_of};
 ghost use Rattle.guest_course.specs.CourseRules.{IsSound};
+ghost use Rattle.guest_course.specs.StepCalls.{TrapsFor};
 ghost use Rattle.guest_core.specs.Holding.{HasFrames, FitsAround};
 ghost use Rattle.guest_core.specs.GuestView.{guest_of, IsSameGuest, IsTableOf};
 ghost use Rattle.guest_core.specs.Kept.{IsKept};
@@ -13,11 +14,11 @@ ghost use Rattle.guest_core.specs.GuestCalls.{Learns, MayNote, processor_of, loa
 ghost use Rattle.guest_core.specs.TurnParts.{Concludes, MayRun};
 ghost use Rattle.guest_core.specs.Using.{AreUses};
 
-use crate::advancing::{Advanced, advance};
 use crate::parts::Parts;
 use crate::releasing::close;
+use crate::serving::{Served, serve};
 use crate::{Resources, Turn};
-use base_words::{End, Event, ProcId, VcpuId};
+use base_words::{End, Event, HwStep, ProcId, TrapCause, VcpuId};
 use cell_depend::Uses;
 use event_journal::Journal;
 use frame_words::{FrameTable, Holder};
@@ -64,7 +65,64 @@ fn conclude(
 }
 
 impl Parts {
+    /// Serves the trap of a virtual processor that runs.
+    #[cold]
+    #[inline(never)]
+    fn trapped<R: Wait>(
+        &mut self,
+        rt: &R,
+        alloc: Global,
+        token: &mut ProcToken,
+        vcpu: VcpuId,
+        resources: &Resources,
+        cause: TrapCause,
+    ) -> Result<Turn, AllocError>
+        requires kept { IsKept self.old }
+        requires room { 2 ≤ (guest_of self.old).room }
+        requires token { MayNote (guest_of self.old) token.old }
+        requires table { IsTableOf resources.now.table.now (guest_of self.old) }
+        requires wires { (guest_of self.old).wires ≡ resources.now.wires.now }
+        requires loaded { (processor_at (guest_of self.old).state token.old.number).loaded ≡ Some vcpu.0 }
+        requires runs { MayRun (guest_of self.old).state vcpu.0 }
+        requires traps { TrapsFor (guest_of self.old).state token.old.number vcpu.0 cause }
+        ensures kept { IsKept self.new }
+        ensures turns { Turns (guest_of self.old) (processor_of token.old) vcpu (guest_of self.new) result }
+        ensures learns { Learns (guest_of self.old) token.old (told_of_turn (processor_of token.old) vcpu result) (guest_of self.new) token.new }
+        ensures same { IsSameGuest (guest_of self.old) (guest_of self.new) }
+        ensures room { (guest_of self.old).room ≤ (guest_of self.new).room + 2 }
+    {
+        exchanges();
+        halts_stay();
+        row_keeps();
+        run_grows();
+        sends();
+        takes();
+        let processor = token.number();
+        match serve(&mut self.course, alloc, processor, vcpu, cause)? {
+            Served::Refill => {
+                self.journal.push(Event::Refill(processor));
+                Ok(Turn::Refilled)
+            }
+            Served::Emulate(out) => {
+                conclude(
+                    &mut self.course,
+                    &mut self.holder,
+                    &mut self.uses,
+                    resources.table,
+                    &mut self.journal,
+                    processor,
+                    vcpu,
+                );
+                let entry = Event::Emulate(processor, vcpu);
+                note(token, &mut self.seat, Note::Made(entry));
+                self.wiring.post(rt, resources.wires, out);
+                Ok(Turn::Stepped(None))
+            }
+        }
+    }
+
     /// The next entry of a virtual processor that runs.
+    #[inline]
     fn enter<R: Wait>(
         &mut self,
         rt: &R,
@@ -93,32 +151,14 @@ impl Parts {
         sends();
         takes();
         let processor = token.number();
-        match advance(&mut self.course, alloc, processor, vcpu)? {
-            Advanced::Direct(access) => {
+        match self.course.step(processor, vcpu) {
+            HwStep::Direct(access) => {
                 self.journal.push_direct(processor, vcpu);
                 let entry = Event::Direct(processor, vcpu);
                 note(token, &mut self.seat, Note::Made(entry));
                 Ok(Turn::Stepped(Some(access)))
             }
-            Advanced::Refill => {
-                self.journal.push(Event::Refill(processor));
-                Ok(Turn::Refilled)
-            }
-            Advanced::Emulate(out) => {
-                conclude(
-                    &mut self.course,
-                    &mut self.holder,
-                    &mut self.uses,
-                    resources.table,
-                    &mut self.journal,
-                    processor,
-                    vcpu,
-                );
-                let entry = Event::Emulate(processor, vcpu);
-                note(token, &mut self.seat, Note::Made(entry));
-                self.wiring.post(rt, resources.wires, out);
-                Ok(Turn::Stepped(None))
-            }
+            HwStep::Trap(cause) => self.trapped(rt, alloc, token, vcpu, resources, cause),
         }
     }
 

@@ -1,5 +1,5 @@
 -- An end is its row, and keeps what holds of a guest.
-use Rattle.std.proofs.Common.{◌≡◌, ℕ, zero, suc, ◌<◌, ◌≤◌, ◌++◌, List, [], ◌∷◌, Option, Some, None, length, map, get_or, is_some, replicate, if◌then◌else◌, Bool, false, refl, ap, ◌∙◌, sym, subst, arith}
+use Rattle.std.proofs.Common.{◌≡◌, ℕ, zero, suc, ◌≤◌, List, [], ◌∷◌, Option, Some, None, length, map, is_some, replicate, if◌then◌else◌, refl, ap, ◌∙◌, sym, subst, arith}
 use Rattle.base_words.specs.declared.events.End.{End}
 use Rattle.base_words.specs.declared.events.End.TheVariants.{Halted, Budget, CellFailed}
 use Rattle.private_machine.specs.Backing.{Page, Move, page_at}

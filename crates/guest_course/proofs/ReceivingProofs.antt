@@ -1,26 +1,24 @@
 -- A packet that is copied into the page that is armed is its row, and keeps what holds of a guest.
-use Rattle.std.proofs.Common.{◌≡◌, ℕ, zero, suc, ◌<◌, ◌&&◌, ◌++◌, ◌∷◌, [], Bool, true, false, List, Option, Some, None, length, map, option_map, replicate, get_or, refl, sym, ap, ◌∙◌, subst, length-set}
+use Rattle.std.proofs.Common.{◌≡◌, ℕ, zero, suc, ◌&&◌, ◌++◌, ◌∷◌, [], Bool, true, false, List, Option, Some, None, length, map, replicate, get_or, refl, sym, ap, ◌∙◌, length-set}
 use Rattle.std.proofs.lemmas.List.{length-map, map-append}
 use Rattle.private_machine.specs.declared.vcpu.Vcpu.{Vcpu}
 use Rattle.private_machine.specs.Vcpu.{no_vcpu, with_line_on}
-use Rattle.private_machine.specs.Backing.{Page, page_at, with_first}
-use Rattle.private_machine.specs.DevicePage.{DevicePage}
+use Rattle.private_machine.specs.Backing.{page_at, with_first}
 use Rattle.private_machine.specs.DeviceRegisters.{packet_noted}
 use Rattle.private_machine.specs.Links.{unlinked_page}
-use Rattle.private_machine.specs.Operation.{Packet}
-use Rattle.private_machine.specs.Packet.{came_into, own_packet}
+use Rattle.private_machine.specs.Packet.{came_into}
 use Rattle.private_machine.specs.Signals.{changed}
 use Rattle.guest_devs.specs.DeviceState.{DeviceState}
 use Rattle.guest_devs.specs.Shown.{Agree}
 use Rattle.pmap_table.specs.PageMap.{PageMap, with_page}
-use Rattle.isolation_law.specs.GuestState.{GuestState, processor}
+use Rattle.isolation_law.specs.GuestState.{processor}
 use Rattle.isolation_law.specs.Content.{content}
 use Rattle.isolation_law.specs.PacketRows.{Receives, with_received}
 use Rattle.isolation_law.specs.Phases.{GoesOn, all_halted}
 use Rattle.isolation_law.specs.Start.{no_cells}
 use Rattle.guest_course.specs.declared.course.Course.{Course}
 use Rattle.guest_course.specs.declared.got.GotPacket.{GotPacket}
-use Rattle.guest_course.specs.CourseView.{state_of, hand_of, got_of}
+use Rattle.guest_course.specs.CourseView.{state_of, got_of}
 use Rattle.guest_course.specs.CourseRules.{IsSound}
 use Rattle.guest_course.specs.EmulateCalls.{StaysLoaded}
 use Rattle.guest_course.proofs.CommandRows.{plain-needs}

@@ -10,8 +10,8 @@ ghost use Rattle.guest_course.specs.StepCalls.{MayStep};
 
 use crate::{Around, Course, Entry, Site};
 use base_words::{
-    Blocks, CellId, DataAccess, Frame, FrameList, FrameNo, GuestId, NodeId, Page, Policy, ProcId,
-    Sequence, Shape, VcpuId,
+    Blocks, CellId, DataAccess, Frame, FrameList, FrameNo, GuestId, HwStep, NodeId, Page, Policy,
+    ProcId, Sequence, Shape, VcpuId,
 };
 use cow_disk::Disk;
 use std::alloc::{AllocError, Global};
@@ -104,17 +104,24 @@ fn around(alloc: Global) -> Result<Around, AllocError>
     })
 }
 
-/// What an entry is, and the frame of its data access, if it has one.
-fn kind(entry: Entry) -> (u8, Option<FrameNo>) {
-    match entry {
-        Entry::Direct(access) => match access.data {
+/// Makes an entry on the processor: what it is, and the frame of its data access, if it has one.
+fn enter(course: &mut Course, vcpu: VcpuId) -> (u8, Option<FrameNo>)
+    requires sound { IsSound course.old }
+    requires may { MayStep (state_of course.old) 0 vcpu.0 }
+    requires room { 0 < course.old.devs.print_room }
+    ensures { IsSound course.new }
+{
+    match course.step(ProcId(0), vcpu) {
+        HwStep::Direct(access) => match access.data {
             DataAccess::NoData => (0, None),
             DataAccess::Load { frame, .. } => (1, Some(frame)),
             DataAccess::Store { frame, .. } => (2, Some(frame)),
         },
-        Entry::Refill => (3, None),
-        Entry::Emulate => (4, None),
-        Entry::Left(_) => (5, None),
+        HwStep::Trap(cause) => match course.serve(ProcId(0), vcpu, cause) {
+            Entry::Refill => (3, None),
+            Entry::Emulate => (4, None),
+            Entry::Left(_) => (5, None),
+        },
     }
 }
 
@@ -152,7 +159,7 @@ fn a_guest_prints_what_it_stored(rt: HostRuntime) -> Result<(), Fail> {
             panic!(rt; "nobody is ready for {entry:?}");
         };
         assert_eq!(rt; vcpu, VcpuId(0));
-        assert_eq!(rt; kind(course.make_entry(ProcId(0), vcpu)), entry);
+        assert_eq!(rt; enter(&mut course, vcpu), entry);
     }
     assert!(rt; course.has_halted());
     assert!(rt; 0 < course.places.len());
@@ -180,8 +187,10 @@ fn advance(alloc: Global, course: &mut Course, vcpu: VcpuId) -> Result<(), Alloc
     ensures { IsSound course.new }
 {
     course.reserve()?;
-    if let Entry::Left(act) = course.make_entry(ProcId(0), vcpu) {
-        course.carry_out(alloc, vcpu, act)?;
+    if let HwStep::Trap(cause) = course.step(ProcId(0), vcpu) {
+        if let Entry::Left(act) = course.serve(ProcId(0), vcpu, cause) {
+            course.carry_out(alloc, vcpu, act)?;
+        }
     }
     Ok(())
 }

@@ -47,6 +47,7 @@ impl Burst {
     }
 
     /// Counts a turn.
+    #[inline]
     pub(crate) fn count(&mut self, turn: Result<Turn, AllocError>)
         requires turns { self.old.turns < BURST_TURNS }
         requires steps { self.old.steps < BURST_TURNS }

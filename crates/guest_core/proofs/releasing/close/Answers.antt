@@ -1,6 +1,6 @@
 -- No frame is counted any more.
 use Rattle.std.proofs.Common.{sym, subst}
-use Rattle.cell_depend.specs.Counters.{UsesState, without_frames}
+use Rattle.cell_depend.specs.Counters.{UsesState}
 use Rattle.guest_course.specs.CourseView.{state_of}
 use Rattle.guest_core.specs.Using.{AreUses}
 use Rattle.guest_core.proofs.UsingProofs.{uses-end}

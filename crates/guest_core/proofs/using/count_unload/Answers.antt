@@ -2,7 +2,7 @@
 use Rattle.std.proofs.Common.{◌≡◌, ◌<◌, ◌≤◌, ℕ, Option, Some, None, length, refl, sym, ap, ◌∙◌, subst, arith}
 use Rattle.std.proofs.Math.ListN.{length-set}
 use Rattle.std.proofs.lemmas.List.{length-map}
-use Rattle.cell_depend.specs.Counters.{UsesState, count_at, with_vcpu, without_vcpu}
+use Rattle.cell_depend.specs.Counters.{UsesState, count_at, without_vcpu}
 use Rattle.isolation_law.specs.GuestState.{processor}
 use Rattle.guest_course.specs.CourseView.{processor_of, state_of}
 use Rattle.guest_core.specs.Using.{AreUses, rows_of}

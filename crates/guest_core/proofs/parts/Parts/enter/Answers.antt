@@ -1,33 +1,21 @@
--- The entry is its row, and the guest is kept.
-use Rattle.std.proofs.Common.{◌≡◌, inl, ℕ, ◌<◌, ◌++◌, [], ◌∷◌, List, length, None, Ok, refl, sym, ap, ◌∙◌, subst, arith}
-use Rattle.base_words.specs.declared.events.Event.TheVariants.{Direct, Refill, Emulate}
+-- A step that the processor made by itself is its row, and the guest is kept; a trap has changed nothing.
+use Rattle.std.proofs.Common.{◌≡◌, ℕ, ◌<◌, ◌++◌, [], ◌∷◌, List, length, refl, sym, ap, ◌∙◌, subst, arith}
+use Rattle.base_words.specs.declared.events.Event.{Event}
+use Rattle.base_words.specs.declared.events.Event.TheVariants.{Direct}
 use Rattle.base_words.specs.declared.ids.ProcId.{ProcId}
 use Rattle.shootdown.specs.declared.notes.Note.TheVariants.{Made}
 use Rattle.shootdown.specs.Notes.{Seat, Token, sided}
-use Rattle.isolation_law.specs.GuestState.{GuestState}
-use Rattle.isolation_law.specs.Phases.{all_halted}
-use Rattle.isolation_law.specs.RefillRow.{Refills}
-use Rattle.isolation_law.specs.StepRows.{Emulates}
-use Rattle.isolation_law.specs.Surroundings.{Surroundings}
+use Rattle.isolation_law.specs.Phases.{GoesOn}
 use Rattle.guest_course.specs.CourseView.{state_of}
 use Rattle.guest_course.specs.StepCalls.{StepsDirect}
-use Rattle.guest_core.specs.GuestCalls.{processor_of, step_entries}
-use Rattle.guest_core.specs.GuestView.{guest_of}
-use Rattle.guest_core.specs.Holding.{FitsAround}
-use Rattle.guest_core.specs.TurnParts.{Advances, GoesOnThen, Posts, out_of}
-use Rattle.guest_core.specs.declared.advancing.Advanced.TheVariants as advances
+use Rattle.guest_core.specs.GuestCalls.{processor_of}
+use Rattle.guest_core.specs.Wiring.{Posted}
 use Rattle.guest_core.proofs.HoldingLemmas.{frames-stay}
 use Rattle.guest_core.proofs.KeptProofs.{Laws, as-many}
-use Rattle.guest_core.proofs.EnterProofs.{kept-direct, kept-refill, kept-emulate, of-these, goes-on, same-loads, one-row, emulate-turn}
-use Rattle.guest_core.proofs.KeptProofs.{emulate-end}
-use Rattle.guest_core.proofs.RoomLemmas.{two-entries, less-room, less-calls}
-use Rattle.wire_queue.specs.Between.{Made as Wires}
-use Rattle.wire_queue.specs.PassLists.{IsListOf}
-use Rattle.base_words.specs.declared.events.Event.{Event}
-use Rattle.guest_core.specs.Wiring.{IsWired, Posted}
-use Rattle.guest_core.proofs.HandProofs.{wired-again}
+use Rattle.guest_core.proofs.EnterProofs.{kept-direct, of-these, one-row}
+use Rattle.guest_core.proofs.RoomLemmas.{two-entries}
 use Rattle.guest_core.proofs.UsingProofs.{uses-row}
-use Rattle.guest_core.proofs.WiringProofs.{SendLaws, TakeLaws, posted-out, quiet-one, quiet-step, posts-concluded, sent-guest, same-ends, fits-out, there-out}
+use Rattle.guest_core.proofs.WiringProofs.{TakeLaws, posted-same, quiet-one}
 use Rattle.guest_core.proofs.parts.Parts.enter.Goals as goal
 
 pub returns-in-Direct-clause-kept : goal.returns-in-Direct-clause-kept
@@ -35,35 +23,38 @@ returns-in-Direct-clause-kept g c =
     let old = c.args.self.now in
     let token : Token = c.args.token.now in
     let s = state_of old.course in
-    let m = state_of c.advance.new.course in
+    let m = state_of c.step.new.self in
     let k = c.requires.kept in
     let q : ProcId = processor_of token in
     let v = c.args.vcpu in
     let same : c.number-processor.result ≡ q = ap (λ (n : ℕ). record { 0 = n }) c.number-processor.ensures in
     let w : Laws = record { halts = c.halts_stay.ensures.row; count = c.halts_stay.ensures.count; processors = c.halts_stay.ensures.processors; loaded = c.halts_stay.ensures.loaded; grows = c.run_grows.ensures.row; around = c.row_keeps.ensures.around } in
     let there : q.0 < length s.processors = subst (λ (n : ℕ). q.0 < n) (sym k.kept.processors) c.requires.token.is_processor in
-    let did : StepsDirect s q.0 v.0 m c.in-Direct.access = subst (λ (n : ℕ). Advances s n v.0 m (Ok (advances.Direct c.in-Direct.access))) c.number-processor.ensures (subst (λ a. Advances s c.number-processor.result.0 v.0 m (Ok a)) c.in-Direct.is c.in_ok-access.ensures.advances) in
+    let did : StepsDirect s q.0 v.0 m c.in-Direct.access = subst (λ (n : ℕ). StepsDirect s n v.0 m c.in-Direct.access) c.number-processor.ensures c.in-Direct.ensures.executes in
+    let on : GoesOn m = c.step.ensures.goes_on in
     let kept = kept-direct w old.start s m old.journal.entries old.seat.notes q v k.no_policy k.kept there did.row refl in
     let loads = as-many w s m (Direct q v) did.row (λ r. refl) in
     let room = two-entries _ _ _ c.requires.room in
-    let v' : TakeLaws = record { same = c.takes.ensures.same; tells_same = c.takes.ensures.tells_same; comes = c.takes.ensures.comes; received = c.takes.ensures.received; tells = c.takes.ensures.tells } in
-    let u' : SendLaws = record { accepted = c.sends.ensures.accepted; full = c.sends.ensures.full } in
-    let here : IsWired old.wiring.wires.value old.wiring.passes s.around = subst (λ (x : Surroundings). IsWired old.wiring.wires.value old.wiring.passes x) (sym k.kept.around) k.wired in
+    let around = w.around s m (Direct q v) did.row in
+    let journal = c.push_direct.ensures.entries ∙ ap (λ (p : ProcId). old.journal.entries ++ Direct p v ∷ []) same in
+    let x : TakeLaws = record { same = c.takes.ensures.same; tells_same = c.takes.ensures.tells_same; comes = c.takes.ensures.comes; received = c.takes.ensures.received; tells = c.takes.ensures.tells } in
+    let packets = c.step.ensures.packets in
     record {
-      sound = c.advance.ensures.sound;
+      sound = c.step.ensures.sound;
       seat = ap (λ (x : Seat). x.number) c.note.ensures.seat ∙ k.seat;
-      kept = of-these old.start m _ _ _ _ (c.push_direct.ensures.entries ∙ ap (λ (p : ProcId). old.journal.entries ++ Direct p v ∷ []) same) (ap (λ (x : Seat). x.notes) c.note.ensures.seat ∙ ap (λ (p : ProcId). old.seat.notes ++ sided q.0 (Made (Direct p v)) ∷ []) same) kept;
-      goes_on = λ on. subst (λ a. GoesOnThen m (Ok a)) c.in-Direct.is c.in_ok-access.ensures.goes_on;
-      frames = frames-stay s m _ (c.exchanges.ensures.steps s m q.0 v.0 did.row) (w.around s m (Direct q v) did.row) ((subst (λ a. GoesOnThen m (Ok a)) c.in-Direct.is c.in_ok-access.ensures.goes_on).not_ended ∙ sym did.row.goes_on.not_ended) k.frames;
+      kept = of-these old.start m _ _ _ _ journal (ap (λ (x : Seat). x.notes) c.note.ensures.seat ∙ ap (λ (p : ProcId). old.seat.notes ++ sided q.0 (Made (Direct p v)) ∷ []) same) kept;
+      goes_on = λ e. on;
+      frames = frames-stay s m _ (c.exchanges.ensures.steps s m q.0 v.0 did.row) around (on.not_ended ∙ sym did.row.goes_on.not_ended) k.frames;
       used = uses-row w s m (Direct q v) old.uses did.row (c.exchanges.ensures.steps s m q.0 v.0 did.row) (λ r. refl) k.used;
       at_home = k.at_home;
       no_policy = k.no_policy;
       unloads = omega (arith, loads, room, c.push_direct.ensures.room);
       few_guests = k.few_guests;
       wired = k.wired;
-      posted = subst (λ (j : List Event). Posted m j old.wiring.passes) (sym (c.push_direct.ensures.entries ∙ ap (λ (p : ProcId). old.journal.entries ++ Direct p v ∷ []) same))
-          (posted-out u' v' old.wiring.wires.value s m old.journal.entries (Direct q v ∷ []) old.wiring.passes old.wiring.passes None here k.posted
-          (subst (λ a. Posts s (out_of (Ok a)) m) c.in-Direct.is c.in_ok-access.ensures.posts) (quiet-one s (Direct q v) refl (λ x. tt)) (same-ends old.wiring.passes));
+      posted = subst (λ (j : List Event). Posted m j old.wiring.passes) (sym journal)
+          (posted-same x s m old.journal.entries (Direct q v ∷ []) old.wiring.passes k.posted
+          (record { received = rw packets.received refl; discarded = rw packets.discarded refl; hand = rw packets.hand refl })
+          packets.sent (rw c.step.ensures.cells refl) around (quiet-one s (Direct q v) refl (λ x. tt)));
     }
 
 pub returns-in-Direct-clause-learns : goal.returns-in-Direct-clause-learns
@@ -77,201 +68,14 @@ returns-in-Direct-clause-learns g c =
       token_is = c.note.ensures.token ∙ ap (λ (p : ProcId). record token { notes = token.notes ++ sided old.seat.number (Made (Direct p v)) ∷ [] }) same ∙ ap (λ (n : ℕ). record token { notes = token.notes ++ sided n (Made (Direct (processor_of token) v)) ∷ [] }) c.requires.kept.seat;
     }
 
-pub returns-in-Refill-clause-kept : goal.returns-in-Refill-clause-kept
-returns-in-Refill-clause-kept g c =
-    let old = c.args.self.now in
-    let token : Token = c.args.token.now in
-    let s = state_of old.course in
-    let m = state_of c.advance.new.course in
-    let k = c.requires.kept in
-    let q : ProcId = processor_of token in
-    let v = c.args.vcpu in
-    let same : c.number-processor.result ≡ q = ap (λ (n : ℕ). record { 0 = n }) c.number-processor.ensures in
-    let w : Laws = record { halts = c.halts_stay.ensures.row; count = c.halts_stay.ensures.count; processors = c.halts_stay.ensures.processors; loaded = c.halts_stay.ensures.loaded; grows = c.run_grows.ensures.row; around = c.row_keeps.ensures.around } in
-    let there : q.0 < length s.processors = subst (λ (n : ℕ). q.0 < n) (sym k.kept.processors) c.requires.token.is_processor in
-    let did : Refills s q.0 m = subst (λ (n : ℕ). Advances s n v.0 m (Ok advances.Refill)) c.number-processor.ensures (subst (λ a. Advances s c.number-processor.result.0 v.0 m (Ok a)) c.in-Refill.is c.in_ok-access.ensures.advances) in
-    let kept = kept-refill w old.start s m old.journal.entries old.seat.notes q k.kept did refl in
-    let loads = as-many w s m (Refill q) did (λ r. refl) in
-    let room = two-entries _ _ _ c.requires.room in
-    let v' : TakeLaws = record { same = c.takes.ensures.same; tells_same = c.takes.ensures.tells_same; comes = c.takes.ensures.comes; received = c.takes.ensures.received; tells = c.takes.ensures.tells } in
-    let u' : SendLaws = record { accepted = c.sends.ensures.accepted; full = c.sends.ensures.full } in
-    let here : IsWired old.wiring.wires.value old.wiring.passes s.around = subst (λ (x : Surroundings). IsWired old.wiring.wires.value old.wiring.passes x) (sym k.kept.around) k.wired in
-    record {
-      sound = c.advance.ensures.sound;
-      seat = k.seat;
-      kept = of-these old.start m _ _ _ _ (c.push.ensures.entries ∙ ap (λ (p : ProcId). old.journal.entries ++ Refill p ∷ []) same) refl kept;
-      goes_on = λ on. subst (λ a. GoesOnThen m (Ok a)) c.in-Refill.is c.in_ok-access.ensures.goes_on;
-      frames = frames-stay s m _ (c.exchanges.ensures.refills s m q.0 did) (w.around s m (Refill q) did) (ap (λ (x : GuestState). x.end) did.after) k.frames;
-      used = uses-row w s m (Refill q) old.uses did (c.exchanges.ensures.refills s m q.0 did) (λ r. refl) k.used;
-      at_home = k.at_home;
-      no_policy = k.no_policy;
-      unloads = omega (arith, loads, room, c.push.ensures.room);
-      few_guests = k.few_guests;
-      wired = k.wired;
-      posted = subst (λ (j : List Event). Posted m j old.wiring.passes) (sym (c.push.ensures.entries ∙ ap (λ (p : ProcId). old.journal.entries ++ Refill p ∷ []) same))
-          (posted-out u' v' old.wiring.wires.value s m old.journal.entries (Refill q ∷ []) old.wiring.passes old.wiring.passes None here k.posted
-          (subst (λ a. Posts s (out_of (Ok a)) m) c.in-Refill.is c.in_ok-access.ensures.posts) (quiet-one s (Refill q) refl (λ x. tt)) (same-ends old.wiring.passes));
-    }
-
-pub returns-in-Refill-clause-turns : goal.returns-in-Refill-clause-turns
-returns-in-Refill-clause-turns g c =
-    let old = c.args.self.now in
-    let token : Token = c.args.token.now in
-    let s = state_of old.course in
-    let m = state_of c.advance.new.course in
-    let q : ProcId = processor_of token in
-    let v = c.args.vcpu in
-    let same : c.number-processor.result ≡ q = ap (λ (n : ℕ). record { 0 = n }) c.number-processor.ensures in
-    let did : Refills s q.0 m = subst (λ (n : ℕ). Advances s n v.0 m (Ok advances.Refill)) c.number-processor.ensures (subst (λ a. Advances s c.number-processor.result.0 v.0 m (Ok a)) c.in-Refill.is c.in_ok-access.ensures.advances) in
-    record { journal = c.push.ensures.entries ∙ ap (λ (p : ProcId). old.journal.entries ++ Refill p ∷ []) same; run = one-row s m (Refill q) did }
-
--- before the guest may end it has its frames as before
-pub conclude-requires-clause-fits : goal.conclude-requires-clause-fits
-conclude-requires-clause-fits g c =
-    let old = c.args.self.now in
-    let token : Token = c.args.token.now in
-    let s = state_of old.course in
-    let m = state_of c.advance.new.course in
-    let q : ProcId = processor_of token in
-    let v = c.args.vcpu in
-    let did : Emulates s q.0 v.0 m = subst (λ (n : ℕ). Advances s n v.0 m (Ok (advances.Emulate c.in-Emulate.out))) c.number-processor.ensures (subst (λ a. Advances s c.number-processor.result.0 v.0 m (Ok a)) c.in-Emulate.is c.in_ok-access.ensures.advances) in
-    let around = c.row_keeps.ensures.around s m (Emulate q v) (inl did) ∙ c.requires.kept.kept.around in
-    subst (λ (x : Surroundings). FitsAround c.args.resources.now.table.now x) (sym around) c.requires.table.fits
-
-pub conclude-requires-clause-frames : goal.conclude-requires-clause-frames
-conclude-requires-clause-frames g c =
-    let old = c.args.self.now in
-    let token : Token = c.args.token.now in
-    let s = state_of old.course in
-    let m = state_of c.advance.new.course in
-    let q : ProcId = processor_of token in
-    let v = c.args.vcpu in
-    let did : Emulates s q.0 v.0 m = subst (λ (n : ℕ). Advances s n v.0 m (Ok (advances.Emulate c.in-Emulate.out))) c.number-processor.ensures (subst (λ a. Advances s c.number-processor.result.0 v.0 m (Ok a)) c.in-Emulate.is c.in_ok-access.ensures.advances) in
-    frames-stay s m old.holder.view (c.exchanges.ensures.emulates s m q.0 v.0 did) (c.row_keeps.ensures.around s m (Emulate q v) (inl did)) (emulate-end s m q.0 v.0 did ∙ sym did.traps.goes_on.not_ended) c.requires.kept.frames
-
-pub conclude-requires-clause-used : goal.conclude-requires-clause-used
-conclude-requires-clause-used g c =
-    let old = c.args.self.now in
-    let token : Token = c.args.token.now in
-    let s = state_of old.course in
-    let m = state_of c.advance.new.course in
-    let q : ProcId = processor_of token in
-    let v = c.args.vcpu in
-    let w : Laws = record { halts = c.halts_stay.ensures.row; count = c.halts_stay.ensures.count; processors = c.halts_stay.ensures.processors; loaded = c.halts_stay.ensures.loaded; grows = c.run_grows.ensures.row; around = c.row_keeps.ensures.around } in
-    let did : Emulates s q.0 v.0 m = subst (λ (n : ℕ). Advances s n v.0 m (Ok (advances.Emulate c.in-Emulate.out))) c.number-processor.ensures (subst (λ a. Advances s c.number-processor.result.0 v.0 m (Ok a)) c.in-Emulate.is c.in_ok-access.ensures.advances) in
-    uses-row w s m (Emulate q v) old.uses (inl did) (c.exchanges.ensures.emulates s m q.0 v.0 did) (λ r. refl) c.requires.kept.used
-
-pub returns-in-Emulate-clause-kept : goal.returns-in-Emulate-clause-kept
-returns-in-Emulate-clause-kept g c =
-    let old = c.args.self.now in
-    let token : Token = c.args.token.now in
-    let s = state_of old.course in
-    let m = state_of c.advance.new.course in
-    let k = c.requires.kept in
-    let q : ProcId = processor_of token in
-    let v = c.args.vcpu in
-    let same : c.number-processor.result ≡ q = ap (λ (n : ℕ). record { 0 = n }) c.number-processor.ensures in
-    let w : Laws = record { halts = c.halts_stay.ensures.row; count = c.halts_stay.ensures.count; processors = c.halts_stay.ensures.processors; loaded = c.halts_stay.ensures.loaded; grows = c.run_grows.ensures.row; around = c.row_keeps.ensures.around } in
-    let there : q.0 < length s.processors = subst (λ (n : ℕ). q.0 < n) (sym k.kept.processors) c.requires.token.is_processor in
-    let t = state_of c.conclude.new.course in
-    let halted = all_halted m.vcpus in
-    let did : Emulates s q.0 v.0 m = subst (λ (n : ℕ). Advances s n v.0 m (Ok (advances.Emulate c.in-Emulate.out))) c.number-processor.ensures (subst (λ a. Advances s c.number-processor.result.0 v.0 m (Ok a)) c.in-Emulate.is c.in_ok-access.ensures.advances) in
-    let ends = c.conclude.ensures.concludes in
-    let kept = kept-emulate w old.start s m t old.journal.entries old.seat.notes q v k.kept there did refl refl halted ends in
-    let loads = as-many w s m (Emulate q v) (inl did) (λ r. refl) in
-    let loads' = same-loads halted w m t ends in
-    let room = two-entries _ _ _ c.requires.room in
-    let v' : TakeLaws = record { same = c.takes.ensures.same; tells_same = c.takes.ensures.tells_same; comes = c.takes.ensures.comes; received = c.takes.ensures.received; tells = c.takes.ensures.tells } in
-    let u' : SendLaws = record { accepted = c.sends.ensures.accepted; full = c.sends.ensures.full } in
-    let here : IsWired old.wiring.wires.value old.wiring.passes s.around = subst (λ (x : Surroundings). IsWired old.wiring.wires.value old.wiring.passes x) (sym k.kept.around) k.wired in
-    record {
-      sound = c.conclude.ensures.sound;
-      seat = ap (λ (x : Seat). x.number) c.note-in-Emulate.ensures.seat ∙ k.seat;
-      kept = of-these old.start t _ _ _ _ (c.conclude.ensures.entries ∙ ap (λ (p : ProcId). old.journal.entries ++ step_entries p v halted) same) (ap (λ (x : Seat). x.notes) c.note-in-Emulate.ensures.seat ∙ ap (λ (p : ProcId). old.seat.notes ++ sided q.0 (Made (Emulate p v)) ∷ []) same) kept;
-      goes_on = λ on. goes-on halted m t refl (emulate-end s m q.0 v.0 did) refl ends on;
-      frames = c.conclude.ensures.frames;
-      used = c.conclude.ensures.used;
-      at_home = k.at_home;
-      no_policy = k.no_policy;
-      unloads = omega (arith, loads, loads', room, c.conclude.ensures.room);
-      few_guests = k.few_guests;
-      wired = subst (λ (m : Wires). IsWired m c.post.new.self.passes old.start.around) (ap (λ x. x.value) (sym c.post.ensures.wires))
-          (wired-again old.wiring.wires.value old.wiring.passes c.post.new.self.passes old.start.around k.wired (subst (λ (m : Wires). IsListOf m c.post.new.self.passes) (sym c.requires.wires) c.post.ensures.list) (sent-guest old.wiring.passes c.post.new.self.passes c.in-Emulate.out c.post.ensures.sent));
-      posted = subst (λ (j : List Event). Posted t j c.post.new.self.passes) (sym (c.conclude.ensures.entries ∙ ap (λ (p : ProcId). old.journal.entries ++ step_entries p v halted) same))
-          (posted-out u' v' old.wiring.wires.value s t old.journal.entries (step_entries q v halted) old.wiring.passes c.post.new.self.passes c.in-Emulate.out here k.posted
-          (posts-concluded halted s m t c.in-Emulate.out (subst (λ a. Posts s (out_of (Ok a)) m) c.in-Emulate.is c.in_ok-access.ensures.posts) ends) (quiet-step s q v halted) c.post.ensures.sent);
-    }
-
-pub returns-in-Emulate-clause-turns : goal.returns-in-Emulate-clause-turns
-returns-in-Emulate-clause-turns g c =
-    let old = c.args.self.now in
-    let token : Token = c.args.token.now in
-    let s = state_of old.course in
-    let m = state_of c.advance.new.course in
-    let q : ProcId = processor_of token in
-    let v = c.args.vcpu in
-    let same : c.number-processor.result ≡ q = ap (λ (n : ℕ). record { 0 = n }) c.number-processor.ensures in
-    let did : Emulates s q.0 v.0 m = subst (λ (n : ℕ). Advances s n v.0 m (Ok (advances.Emulate c.in-Emulate.out))) c.number-processor.ensures (subst (λ a. Advances s c.number-processor.result.0 v.0 m (Ok a)) c.in-Emulate.is c.in_ok-access.ensures.advances) in
-    emulate-turn (all_halted m.vcpus) (guest_of old) _ m q v refl did c.conclude.ensures.concludes (c.conclude.ensures.entries ∙ ap (λ (p : ProcId). old.journal.entries ++ step_entries p v (all_halted m.vcpus)) same)
-
-pub returns-in-Emulate-clause-learns : goal.returns-in-Emulate-clause-learns
-returns-in-Emulate-clause-learns g c =
-    let old = c.args.self.now in
-    let token : Token = c.args.token.now in
-    let v = c.args.vcpu in
-    let same : c.number-processor.result ≡ processor_of token = ap (λ (n : ℕ). record { 0 = n }) c.number-processor.ensures in
-    record {
-      seat = ap (λ (x : Seat). x.notes) c.note-in-Emulate.ensures.seat ∙ ap (λ (p : ProcId). old.seat.notes ++ sided token.number (Made (Emulate p v)) ∷ []) same;
-      token_is = c.note-in-Emulate.ensures.token ∙ ap (λ (p : ProcId). record token { notes = token.notes ++ sided old.seat.number (Made (Emulate p v)) ∷ [] }) same ∙ ap (λ (n : ℕ). record token { notes = token.notes ++ sided n (Made (Emulate (processor_of token) v)) ∷ [] }) c.requires.kept.seat;
-    }
-
-pub returns-in-Emulate-clause-room : goal.returns-in-Emulate-clause-room
-returns-in-Emulate-clause-room g c =
-    let old = c.args.self.now in
-    let token : Token = c.args.token.now in
-    let s = state_of old.course in
-    let m = state_of c.advance.new.course in
-    let k = c.requires.kept in
-    let q : ProcId = processor_of token in
-    let v = c.args.vcpu in
-    let same : c.number-processor.result ≡ q = ap (λ (n : ℕ). record { 0 = n }) c.number-processor.ensures in
-    let w : Laws = record { halts = c.halts_stay.ensures.row; count = c.halts_stay.ensures.count; processors = c.halts_stay.ensures.processors; loaded = c.halts_stay.ensures.loaded; grows = c.run_grows.ensures.row; around = c.row_keeps.ensures.around } in
-    let there : q.0 < length s.processors = subst (λ (n : ℕ). q.0 < n) (sym k.kept.processors) c.requires.token.is_processor in
-    let t = state_of c.conclude.new.course in
-    let halted = all_halted m.vcpus in
-    let did : Emulates s q.0 v.0 m = subst (λ (n : ℕ). Advances s n v.0 m (Ok (advances.Emulate c.in-Emulate.out))) c.number-processor.ensures (subst (λ a. Advances s c.number-processor.result.0 v.0 m (Ok a)) c.in-Emulate.is c.in_ok-access.ensures.advances) in
-    let loads = as-many w s m (Emulate q v) (inl did) (λ r. refl) in
-    let loads' = same-loads halted w m t c.conclude.ensures.concludes in
-    let ends = c.conclude.ensures in
-    rw (ends.devs, ends.cells, ends.received) (less-room _ _ _ _ _ _ (omega (arith, loads, loads', ends.room)) (rw c.advance.ensures.received (less-calls _ _ _ _ _ _ _ c.advance.ensures.print_room c.advance.ensures.send_room c.advance.ensures.cells)))
-
 pub returns-in-Direct-clause-turns : goal.returns-in-Direct-clause-turns
 returns-in-Direct-clause-turns g c =
     let old = c.args.self.now in
     let token : Token = c.args.token.now in
     let s = state_of old.course in
-    let m = state_of c.advance.new.course in
+    let m = state_of c.step.new.self in
     let q : ProcId = processor_of token in
     let v = c.args.vcpu in
     let same : c.number-processor.result ≡ q = ap (λ (n : ℕ). record { 0 = n }) c.number-processor.ensures in
-    let did : StepsDirect s q.0 v.0 m c.in-Direct.access = subst (λ (n : ℕ). Advances s n v.0 m (Ok (advances.Direct c.in-Direct.access))) c.number-processor.ensures (subst (λ a. Advances s c.number-processor.result.0 v.0 m (Ok a)) c.in-Direct.is c.in_ok-access.ensures.advances) in
+    let did : StepsDirect s q.0 v.0 m c.in-Direct.access = subst (λ (n : ℕ). StepsDirect s n v.0 m c.in-Direct.access) c.number-processor.ensures c.in-Direct.ensures.executes in
     record { makes = record { journal = c.push_direct.ensures.entries ∙ ap (λ (p : ProcId). old.journal.entries ++ Direct p v ∷ []) same; run = one-row s m (Direct q v) did.row }; direct = did }
-
--- what goes out is on a wire of the guest
-pub post-requires-clause-fits : goal.post-requires-clause-fits
-post-requires-clause-fits g c =
-    let old = c.args.self.now in
-    let s = state_of old.course in
-    let m = state_of c.advance.new.course in
-    let k = c.requires.kept in
-    let posts : Posts s c.in-Emulate.out m = subst (λ a. Posts s (out_of (Ok a)) m) c.in-Emulate.is c.in_ok-access.ensures.posts in
-    fits-out c.args.resources.now.wires.now old.wiring.passes s c.in-Emulate.out posts.goes (k.wired.number ∙ sym (ap (λ (x : Surroundings). x.guest) k.kept.around))
-
-pub post-requires-clause-there : goal.post-requires-clause-there
-post-requires-clause-there g c =
-    let old = c.args.self.now in
-    let s = state_of old.course in
-    let m = state_of c.advance.new.course in
-    let k = c.requires.kept in
-    let posts : Posts s c.in-Emulate.out m = subst (λ a. Posts s (out_of (Ok a)) m) c.in-Emulate.is c.in_ok-access.ensures.posts in
-    there-out old.wiring.wires.value old.wiring.passes s c.in-Emulate.out (subst (λ (x : Surroundings). IsWired old.wiring.wires.value old.wiring.passes x) (sym k.kept.around) k.wired) posts.goes

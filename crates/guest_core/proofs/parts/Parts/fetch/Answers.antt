@@ -1,5 +1,5 @@
 -- A packet that comes to hand is the last one taken.
-use Rattle.std.proofs.Common.{◌≡◌, ◌≤◌, Some, option_map, sym, ap, ◌∙◌, subst}
+use Rattle.std.proofs.Common.{◌≡◌, ◌≤◌, Some, option_map, sym, ap, subst}
 use Rattle.isolation_law.specs.GuestState.{GuestState}
 use Rattle.isolation_law.specs.Surroundings.{Surroundings}
 use Rattle.wire_queue.specs.Between.{Made}

@@ -1,9 +1,8 @@
 -- The counters tell what the state does, until the guest ends.
-use Rattle.std.proofs.Common.{◌≡◌, not, ◌&&◌, ◌||◌, Bool, true, false, Option, Some, None, is_some, is_none, refl, sym, ap, ◌∙◌, arith}
+use Rattle.std.proofs.Common.{◌≡◌, ◌&&◌, ◌||◌, Bool, true, false, Option, Some, None, is_some, is_none, refl, sym, ap, ◌∙◌, arith}
 use Rattle.std.specs.List.{list_any}
 use Rattle.base_words.specs.declared.events.End.{End}
 use Rattle.isolation_law.specs.CellUse.{held, lies_in, loaded_in}
-use Rattle.isolation_law.specs.Holdings.{holds}
 use Rattle.guest_course.specs.CourseView.{state_of}
 use Rattle.guest_core.proofs.UseTells.{counted-use}
 use Rattle.guest_core.proofs.parts.Parts.uses.Goals as goal

@@ -1,5 +1,5 @@
 -- None of the wires that were asked so far gave a packet.
-use Rattle.std.specs.Prelude.{◌≡◌, length}
+use Rattle.std.specs.Prelude.{◌≡◌}
 use Rattle.wire_queue.specs.ListSteps.{SameEnds}
 use Rattle.wire_queue.specs.Between.{guest_count}
 use Rattle.wire_queue.specs.PassLists.{IsListOf}

@@ -1,5 +1,5 @@
 -- The guest has no pages any more, and ended so.
-use Rattle.std.proofs.Common.{Some, refl, ap, ◌∙◌}
+use Rattle.std.proofs.Common.{Some, ap}
 use Rattle.guest_course.specs.declared.course.Course.{Course}
 use Rattle.guest_course.proofs.EndProofs.{ends-row, ends-sound}
 use Rattle.guest_course.proofs.course.Course.end.Goals as goal

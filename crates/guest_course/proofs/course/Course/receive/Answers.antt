@@ -2,11 +2,9 @@
 use Rattle.std.proofs.Common.{◌≡◌, inl, ◌≤◌, ◌++◌, ◌∷◌, [], Some, None, length, option_map, sym, ap, ◌∙◌, subst}
 use Rattle.base_words.specs.declared.events.Event.TheVariants.{PacketIn}
 use Rattle.private_machine.specs.Operation.{Packet}
-use Rattle.wire_queue.specs.declared.packet.WirePacket.{WirePacket}
 use Rattle.guest_course.specs.declared.course.Course.{Course}
 use Rattle.guest_course.specs.CourseView.{state_of, hand_of, got_of}
 use Rattle.guest_course.specs.CourseRules.{FitsInHand}
-use Rattle.guest_course.specs.ReceivingCalls.{MayDeliver}
 use Rattle.guest_course.proofs.EmulateProofs.{sound-remade}
 use Rattle.guest_course.proofs.ReceivingProofs.{Received, receives-row, received-remade, received-stays, received-goes-on}
 use Rattle.guest_course.proofs.course.Course.receive.Goals as goal

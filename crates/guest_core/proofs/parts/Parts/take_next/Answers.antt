@@ -1,12 +1,11 @@
 -- A packet comes to hand, and is received.
-use Rattle.std.proofs.Common.{◌≡◌, ℕ, ◌⊎◌, ⊎_elim, inl, List, [], ◌∷◌, ◌++◌, length, refl, sym, ap, ◌∙◌, subst}
+use Rattle.std.proofs.Common.{◌≡◌, ℕ, ⊎_elim, inl, [], ◌∷◌, ◌++◌, length, refl, ap, ◌∙◌, subst}
 use Rattle.base_words.specs.declared.events.Event.TheVariants.{PacketIn}
-use Rattle.private_machine.specs.Operation.{Packet}
 use Rattle.isolation_law.specs.GuestState.{GuestState}
 use Rattle.isolation_law.specs.PacketRows.{ComesToHand, Receives}
 use Rattle.isolation_law.specs.Run.{Silent}
 use Rattle.guest_core.specs.GuestView.{guest_of}
-use Rattle.guest_core.proofs.parts.Parts.packet_in.Goals as goal
+use Rattle.guest_core.proofs.parts.Parts.take_next.Goals as goal
 
 as-many-received : (s t : GuestState) → Silent s t → length t.received ≡ length s.received
 as-many-received s t silent = ⊎_elim (λ (e : t ≡ s). ap (λ (x : GuestState). length x.received) e) (λ (x : ComesToHand s t). ap (λ (y : GuestState). length y.received) x.after) silent
@@ -19,7 +18,7 @@ returns-clause-takes g c =
     let f = c.fetch.ensures.fetches in
     let r = c.in_ok-take_in.ensures.takes in
     let count = as-many-received old.state mid.state f.silent in (
-      c.if-not-is_armed.ensures.yes,
+      c.requires.armed,
       record {
         quiet = record { notes = r.quiet.notes ∙ f.quiet.notes; view = r.quiet.view ∙ f.quiet.view };
         makes = record {
