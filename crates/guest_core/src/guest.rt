@@ -159,7 +159,7 @@ impl Guest {
     /// The virtual processor that is loaded on the token's processor has its turn: `GuestEnded` exactly where the guest has ended, else
     /// `VcpuHalted` exactly where it has halted; else one step of its own or one refill. Want of memory comes only at a send or a disk write,
     /// and then no entry was made. The step that halts the last virtual processor ends the guest, which gives all its frames back.
-    #[inline]
+    #[inline(always)]
     pub fn turn<R: Wait>(
         &mut self,
         rt: &R,

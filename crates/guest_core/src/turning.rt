@@ -122,7 +122,7 @@ impl Parts {
     }
 
     /// The next entry of a virtual processor that runs.
-    #[inline]
+    #[inline(always)]
     fn enter<R: Wait>(
         &mut self,
         rt: &R,
@@ -163,7 +163,7 @@ impl Parts {
     }
 
     /// The virtual processor that is loaded on the token's processor has its turn.
-    #[inline]
+    #[inline(always)]
     pub(crate) fn turn<R: Wait>(
         &mut self,
         rt: &R,
