@@ -10,6 +10,8 @@ E and halts; after each 256 rounds it prints a point. Prints the rounds of each 
 doubled or out of order.
 """
 
+import argparse
+import os
 import pathlib
 import re
 import subprocess
@@ -146,22 +148,30 @@ def run(disco, steps):
         return done, time.monotonic() - began
 
 
-def main(arguments):
-    if len(arguments) not in (1, 2):
-        sys.exit("usage: packets.py DISCO [STEPS]")
-    disco = pathlib.Path(arguments[0]).resolve()
-    steps = int(arguments[1]) if len(arguments) == 2 else STEPS
-    done, seconds = run(disco, steps)
+def built_program(path):
+    """The built program."""
+    found = pathlib.Path(path).resolve()
+    if not (found.is_file() and os.access(found, os.X_OK)):
+        raise argparse.ArgumentTypeError(f"{path} is no program")
+    return found
+
+
+def main():
+    parser = argparse.ArgumentParser(description=__doc__.split("\n", 1)[0])
+    parser.add_argument("disco", type=built_program, help="the built program")
+    parser.add_argument("steps", type=int, nargs="?", default=STEPS, help="how many steps each guest makes (%(default)s)")
+    given = parser.parse_args()
+    done, seconds = run(given.disco, given.steps)
     if done.returncode != 0:
         sys.exit(f"status {done.returncode}: {done.stdout}{done.stderr}")
     reports = re.findall(r"guest (\d) console \d+\n(.*)\nend (\w+)\nsums steps (\d+) .* received (\d+) discarded 0", done.stdout)
     wrong = len(reports) != GUESTS
     for guest, console, end, made, received in reports:
         print(f"guest {guest}: {int(received) // (GUESTS - 1)} rounds, {received} packets, {made} steps, end {end}")
-        wrong = wrong or "E" in console or end != "budget" or int(made) != steps or int(received) == 0
+        wrong = wrong or "E" in console or end != "budget" or int(made) != given.steps or int(received) == 0
     print(f"{'WRONG' if wrong else 'in order'}, {seconds:.1f} s")
     return 1 if wrong else 0
 
 
 if __name__ == "__main__":
-    sys.exit(main(sys.argv[1:]))
+    sys.exit(main())

@@ -14,6 +14,8 @@ On a difference its seed is named, its folder is kept, the place where the repor
 
 from __future__ import annotations
 
+import argparse
+import os
 import pathlib
 import shutil
 import subprocess
@@ -127,18 +129,26 @@ def compare(disco: pathlib.Path, seed: int, totals: Totals) -> bool:
     return False
 
 
-def main(arguments: list[str]) -> int:
-    if not 1 <= len(arguments) <= 3:
-        sys.exit("usage: random_guests.py DISCO [RUNS] [SEED]")
-    disco = pathlib.Path(arguments[0]).resolve()
-    runs = int(arguments[1]) if len(arguments) > 1 else RUNS
-    first = int(arguments[2]) if len(arguments) > 2 else 0
+def built_program(path: str) -> pathlib.Path:
+    """The built program."""
+    found = pathlib.Path(path).resolve()
+    if not (found.is_file() and os.access(found, os.X_OK)):
+        raise argparse.ArgumentTypeError(f"{path} is no program")
+    return found
+
+
+def main() -> int:
+    parser = argparse.ArgumentParser(description=__doc__.split("\n", 1)[0])
+    parser.add_argument("disco", type=built_program, help="the built program")
+    parser.add_argument("runs", type=int, nargs="?", default=RUNS, help="how many runs (%(default)s)")
+    parser.add_argument("seed", type=int, nargs="?", default=0, help="the seed of the first (%(default)s)")
+    given = parser.parse_args()
     totals = Totals()
-    differ = sum(not compare(disco, seed, totals) for seed in range(first, first + runs))
+    differ = sum(not compare(given.disco, seed, totals) for seed in range(given.seed, given.seed + given.runs))
     verdict = f"{differ} of the runs differ" if differ else "all equal"
     print(f"{totals.line()}: {verdict}")
     return 1 if differ else 0
 
 
 if __name__ == "__main__":
-    sys.exit(main(sys.argv[1:]))
+    sys.exit(main())
