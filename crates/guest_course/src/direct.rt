@@ -37,7 +37,7 @@ impl Course {
     }
 
     /// One step of the virtual processor that is loaded on a processor, through the processor's TLB. A trap changes nothing.
-    #[inline]
+    #[inline(always)]
     pub fn step(&mut self, processor: ProcId, vcpu: VcpuId) -> HwStep
         requires sound { IsSound self.old }
         requires may { MayStep (state_of self.old) processor.0 vcpu.0 }
