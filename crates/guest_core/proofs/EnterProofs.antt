@@ -22,7 +22,8 @@ use Rattle.guest_core.specs.GuestCalls.{step_entries, end_of, Makes, TurnsEmulat
 use Rattle.guest_core.specs.GuestView.{Monitored, loaded_count}
 use Rattle.guest_core.specs.Kept.{Kept}
 use Rattle.guest_core.specs.TurnParts.{Concludes}
-use Rattle.guest_core.proofs.KeptProofs.{Laws, IsOff, kept-one, kept-none, direct-leaves, refill-leaves, emulate-leaves, emulate-end, end-leaves, as-many}
+use Rattle.guest_core.specs.Laws.{RowLaws}
+use Rattle.guest_core.proofs.KeptProofs.{IsOff, kept-one, kept-none, direct-leaves, refill-leaves, emulate-leaves, emulate-end, end-leaves, as-many}
 
 same-if : (b : Bool) (l : Option ℕ) → l ≡ (if b then l else l)
 same-if true l = refl
@@ -32,25 +33,25 @@ same-if false l = refl
 fresh : (s : GuestState) (v : VcpuId) → s.end ≡ None → (vcpu_of s v.0).halted ≡ false → (u : ℕ) → (v.0 == u) ≡ true → (s.end ≡ None) × ((vcpu_of s u).halted ≡ false)
 fresh s v on runs u e = (on, subst (λ (k : ℕ). (vcpu_of s k).halted ≡ false) (eqb-true v.0 u e) runs)
 
-pub kept-direct : Laws → (b : Boot) (s t : GuestState) (journal : List Event) (notes : List SidedNote) (p : ProcId) (v : VcpuId) → IsOff b.around.policy → Kept b s journal notes → p.0 < length s.processors
+pub kept-direct : RowLaws → (b : Boot) (s t : GuestState) (journal : List Event) (notes : List SidedNote) (p : ProcId) (v : VcpuId) → IsOff b.around.policy → Kept b s journal notes → p.0 < length s.processors
     → Steps s p.0 v.0 t → t.dead ≡ s.dead → Kept b t (journal ++ Direct p v ∷ []) (notes ++ sided p.0 (Made (Direct p v)) ∷ [])
 kept-direct w b s t journal notes p v off k there row dead =
     kept-one w b s t journal notes (Direct p v) (sided p.0 (Made (Direct p v))) k
     (direct-leaves s t p v row dead (subst (λ (x : Policy). IsOff x) (sym (ap (λ a. a.policy) k.around)) off) k.nothing_due) there refl tt
     (record { steps = fresh s v row.goes_on.not_ended row.runs.running }) (λ r. same-if (p.0 == r) (processor s r).loaded)
 
-pub kept-refill : Laws → (b : Boot) (s t : GuestState) (journal : List Event) (notes : List SidedNote) (p : ProcId) → Kept b s journal notes → Refills s p.0 t → t.dead ≡ s.dead → Kept b t (journal ++ Refill p ∷ []) notes
+pub kept-refill : RowLaws → (b : Boot) (s t : GuestState) (journal : List Event) (notes : List SidedNote) (p : ProcId) → Kept b s journal notes → Refills s p.0 t → t.dead ≡ s.dead → Kept b t (journal ++ Refill p ∷ []) notes
 kept-refill w b s t journal notes p k row dead = kept-none w b s t journal notes (Refill p) k (refill-leaves s t p row dead k.nothing_due) refl (λ r. refl)
 
 -- a step by the monitor's hand, and the end where it halted the last virtual processor
-concluded : (halted : Bool) → Laws → (b : Boot) (m t : GuestState) (journal : List Event) (notes : List SidedNote) (p : ProcId) (v : VcpuId) → Kept b m (journal ++ Emulate p v ∷ []) notes → m.end ≡ None → Concludes halted m t → t.dead ≡ m.dead
+concluded : (halted : Bool) → RowLaws → (b : Boot) (m t : GuestState) (journal : List Event) (notes : List SidedNote) (p : ProcId) (v : VcpuId) → Kept b m (journal ++ Emulate p v ∷ []) notes → m.end ≡ None → Concludes halted m t → t.dead ≡ m.dead
     → Kept b t (journal ++ step_entries p v halted) notes
 concluded false w b m t journal notes p v k on is dead = subst (λ (x : GuestState). Kept b x (journal ++ Emulate p v ∷ []) notes) (sym is) k
 concluded true w b m t journal notes p v k on is dead =
     subst (λ (j : List Event). Kept b t j notes) (append_assoc journal (Emulate p v ∷ []) (Ending ByHalt ∷ []))
     (kept-none w b m t (journal ++ Emulate p v ∷ []) notes (Ending ByHalt) k (end-leaves m t ByHalt on is dead k.nothing_due) refl (λ r. refl))
 
-pub kept-emulate : Laws → (b : Boot) (s m t : GuestState) (journal : List Event) (notes : List SidedNote) (p : ProcId) (v : VcpuId) → Kept b s journal notes → p.0 < length s.processors → Emulates s p.0 v.0 m → m.dead ≡ s.dead → t.dead ≡ m.dead
+pub kept-emulate : RowLaws → (b : Boot) (s m t : GuestState) (journal : List Event) (notes : List SidedNote) (p : ProcId) (v : VcpuId) → Kept b s journal notes → p.0 < length s.processors → Emulates s p.0 v.0 m → m.dead ≡ s.dead → t.dead ≡ m.dead
     → (halted : Bool) → Concludes halted m t → Kept b t (journal ++ step_entries p v halted) (notes ++ sided p.0 (Made (Emulate p v)) ∷ [])
 kept-emulate w b s m t journal notes p v k there row dead dead' halted is =
     concluded halted w b m t journal (notes ++ sided p.0 (Made (Emulate p v)) ∷ []) p v
@@ -80,7 +81,7 @@ pub ends-so : (halted : Bool) (m t : GuestState) → m.end ≡ None → Conclude
 ends-so true m t on is = ap (λ (x : GuestState). x.end) is.after
 ends-so false m t on is = ap (λ (x : GuestState). x.end) is ∙ on
 
-pub same-loads : (halted : Bool) → Laws → (m t : GuestState) → Concludes halted m t → loaded_count t ≡ loaded_count m
+pub same-loads : (halted : Bool) → RowLaws → (m t : GuestState) → Concludes halted m t → loaded_count t ≡ loaded_count m
 same-loads true w m t is = as-many w m t (Ending ByHalt) is (λ r. refl)
 same-loads false w m t is = ap loaded_count is
 

@@ -17,7 +17,7 @@ use Rattle.shootdown.specs.declared.view.SidedNote.{SidedNote}
 use Rattle.isolation_law.specs.Dues.{without_moving}
 use Rattle.isolation_law.specs.DirectStep.{data_noted, is_miss, misses_after}
 use Rattle.isolation_law.specs.EndRows.{Ends}
-use Rattle.isolation_law.specs.GuestState.{GuestState, processor, vcpu_of, due_on}
+use Rattle.isolation_law.specs.GuestState.{GuestState, processor, due_on}
 use Rattle.isolation_law.specs.LoadRows.{Loads, Unloads}
 use Rattle.isolation_law.specs.LoadsIn.{loaded_after}
 use Rattle.isolation_law.specs.MachineEvent.{Row}
@@ -25,23 +25,14 @@ use Rattle.isolation_law.specs.PacketRows.{Receives}
 use Rattle.isolation_law.specs.Parts.{Wish}
 use Rattle.isolation_law.specs.Policy.{chosen, due_after}
 use Rattle.isolation_law.specs.RefillRow.{Refills}
-use Rattle.isolation_law.specs.Run.{Run}
 use Rattle.isolation_law.specs.Start.{Boot, start as started}
 use Rattle.isolation_law.specs.StepRows.{Steps, Emulates, act_done}
 use Rattle.guest_core.specs.GuestView.{loaded_count}
 use Rattle.guest_core.specs.Kept.{Kept}
 use Rattle.guest_core.specs.Noting.{noted, made_in, HoldsOf, loaded_by_note, IsNoted}
+use Rattle.guest_core.specs.Laws.{RowLaws}
 use Rattle.guest_core.proofs.CountLemmas.{count-same, count-loaded, count-unloaded}
 use Rattle.guest_core.proofs.NoteLemmas.{Keeps, IsFresh, noted-one, noted-none}
-
--- the laws of a guest on which this stands
-pub record Laws : Type 0 where
-  pub halts : (s t : GuestState) (e : Event) (v : ℕ) → Row s e t → (vcpu_of s v).halted ≡ true → (vcpu_of t v).halted ≡ true
-  pub count : (s t : GuestState) (e : Event) → Row s e t → length t.vcpus ≡ length s.vcpus
-  pub processors : (s t : GuestState) (e : Event) → Row s e t → length t.processors ≡ length s.processors
-  pub loaded : (s t : GuestState) (e : Event) (r : ℕ) → Row s e t → (processor t r).loaded ≡ loaded_after e r (processor s r).loaded
-  pub grows : (s m t : GuestState) (journal : List Event) (e : Event) → Run s journal m → Row m e t → Run s (journal ++ e ∷ []) t
-  pub around : (s t : GuestState) (e : Event) → Row s e t → t.around ≡ s.around
 
 -- the policy is off
 abbrev pub IsOff : Policy → Type 0
@@ -54,10 +45,10 @@ pub record Leaves (s : GuestState) (e : Event) (t : GuestState) : Type 0 where
   pub ends : (end : End) → s.end ≡ Some end → t.end ≡ Some end
   pub due : (r : ℕ) → due_on t r ≡ None
 
-keeps : Laws → (s t : GuestState) (e : Event) → Leaves s e t → Keeps s t
+keeps : RowLaws → (s t : GuestState) (e : Event) → Leaves s e t → Keeps s t
 keeps w s t e l = record { halts = λ v h. w.halts s t e v l.row h; ends = l.ends; dead = l.dead; count = w.processors s t e l.row }
 
-pub kept-one : Laws → (b : Boot) (s t : GuestState) (journal : List Event) (notes : List SidedNote) (e : Event) (n : SidedNote) → Kept b s journal notes → Leaves s e t
+pub kept-one : RowLaws → (b : Boot) (s t : GuestState) (journal : List Event) (notes : List SidedNote) (e : Event) (n : SidedNote) → Kept b s journal notes → Leaves s e t
     → n.side < length s.processors → made_in (n ∷ []) ≡ noted (e ∷ []) → HoldsOf t n.note → IsFresh s n.note
     → ((r : ℕ) → loaded_after e r (processor s r).loaded ≡ (if n.side == r then loaded_by_note (processor s r).loaded n.note else (processor s r).loaded))
     → Kept b t (journal ++ e ∷ []) (notes ++ n ∷ [])
@@ -70,7 +61,7 @@ kept-one w b s t journal notes e n k l there made holds fresh loads = record {
   vcpus = w.count s t e l.row ∙ k.vcpus;
 }
 
-pub kept-none : Laws → (b : Boot) (s t : GuestState) (journal : List Event) (notes : List SidedNote) (e : Event) → Kept b s journal notes → Leaves s e t
+pub kept-none : RowLaws → (b : Boot) (s t : GuestState) (journal : List Event) (notes : List SidedNote) (e : Event) → Kept b s journal notes → Leaves s e t
     → noted (e ∷ []) ≡ [] → ((r : ℕ) → loaded_after e r (processor s r).loaded ≡ (processor s r).loaded) → Kept b t (journal ++ e ∷ []) notes
 kept-none w b s t journal notes e k l none loads = record {
   run = w.grows (started b) s t journal e k.run l.row;
@@ -189,15 +180,15 @@ end-leaves s t end on row dead none = record { row = row; dead = dead; ends = no
 
 -- ---- what is loaded
 
-pub one-fewer : Laws → (s t : GuestState) (p : ProcId) → Unloads s p.0 t → p.0 < length s.processors → suc (loaded_count t) ≡ loaded_count s
+pub one-fewer : RowLaws → (s t : GuestState) (p : ProcId) → Unloads s p.0 t → p.0 < length s.processors → suc (loaded_count t) ≡ loaded_count s
 one-fewer w s t p row lt = by (processor s p.0).loaded refl
   where
     by : (l : Option ℕ) → (processor s p.0).loaded ≡ l → suc (loaded_count t) ≡ loaded_count s
     by None e = absurd (row.loaded e)
     by (Some v) e = count-unloaded s.processors t.processors p.0 v lt (w.processors s t (Unload p) row) (λ r. w.loaded s t (Unload p) r row) e
 
-pub one-more : Laws → (s t : GuestState) (p : ProcId) (v : VcpuId) → Loads s p.0 v.0 t → loaded_count t ≡ suc (loaded_count s)
+pub one-more : RowLaws → (s t : GuestState) (p : ProcId) (v : VcpuId) → Loads s p.0 v.0 t → loaded_count t ≡ suc (loaded_count s)
 one-more w s t p v row = count-loaded s.processors t.processors p.0 v.0 row.is_processor (w.processors s t (Load p v) row) (λ r. w.loaded s t (Load p v) r row) row.free
 
-pub as-many : Laws → (s t : GuestState) (e : Event) → Row s e t → ((r : ℕ) → loaded_after e r (processor s r).loaded ≡ (processor s r).loaded) → loaded_count t ≡ loaded_count s
+pub as-many : RowLaws → (s t : GuestState) (e : Event) → Row s e t → ((r : ℕ) → loaded_after e r (processor s r).loaded ≡ (processor s r).loaded) → loaded_count t ≡ loaded_count s
 as-many w s t e row same = count-same s.processors t.processors (w.processors s t e row) (λ r. w.loaded s t e r row ∙ same r)

@@ -29,8 +29,8 @@ use Rattle.isolation_law.specs.Start.{Boot, pages_at_start, start as started}
 use Rattle.isolation_law.specs.Surroundings.{Surroundings}
 use Rattle.guest_course.specs.BootCalls.{found_of}
 use Rattle.guest_core.specs.Using.{AreUses, IsShapeOf, frame_of, loaded_cells, rows_of}
+use Rattle.guest_core.specs.Laws.{RowLaws}
 use Rattle.guest_core.proofs.HoldingLemmas.{same-count}
-use Rattle.guest_core.proofs.KeptProofs.{Laws}
 use Rattle.guest_core.proofs.LoadedCells.{cell_at, cells-same, cells-set, cells-cleared, none-loaded}
 
 -- ---- over an entry that takes and gives no frame
@@ -62,7 +62,7 @@ uses-stay s t uses ex around long same u = record {
       (ap (λ (w : Surroundings). loaded_cells w 0 t.processors) around ∙ cells-same s.around 0 s.processors t.processors long same) u.counts;
 }
 
-pub uses-row : Laws → (s t : GuestState) (e : Event) (uses : UsesState) → Row s e t → Exchanged s t [] [] → ((r : ℕ) → loaded_after e r (processor s r).loaded ≡ (processor s r).loaded) → AreUses s uses → AreUses t uses
+pub uses-row : RowLaws → (s t : GuestState) (e : Event) (uses : UsesState) → Row s e t → Exchanged s t [] [] → ((r : ℕ) → loaded_after e r (processor s r).loaded ≡ (processor s r).loaded) → AreUses s uses → AreUses t uses
 uses-row w s t e uses row ex same u = uses-stay s t uses ex (w.around s t e row) (w.processors s t e row) (λ r. w.loaded s t e r row ∙ same r) u
 
 pub uses-come : (s t : GuestState) (uses : UsesState) → AreUses s uses → ComesToHand s t → AreUses t uses

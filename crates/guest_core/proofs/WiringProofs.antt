@@ -1,5 +1,5 @@
 -- A guest's ends of its wires stay in step with what it sends and takes.
-use Rattle.std.proofs.Common.{◌≡◌, ◌≢◌, ℕ, zero, suc, ◌<◌, ◌≤◌, ◌==◌, if◌then◌else◌, Bool, true, false, List, [], ◌∷◌, ◌++◌, All, Option, None, Some, IsSome, IfSome, option_map, length, map, filter, flat_map, get_or, unwrap_or, cond, refl, sym, ap, ◌∙◌, subst, arith}
+use Rattle.std.proofs.Common.{◌≡◌, ◌≢◌, ℕ, zero, suc, ◌<◌, ◌==◌, if◌then◌else◌, Bool, true, false, List, [], ◌∷◌, ◌++◌, All, Option, None, Some, IsSome, IfSome, option_map, length, map, filter, flat_map, get_or, unwrap_or, cond, refl, sym, ap, ◌∙◌, subst, arith}
 use Rattle.std.proofs.lemmas.List.{append-nil, map-append, length-map}
 use Rattle.std.proofs.lemmas.List.Elements.{All-nil, All-cons, All-append, filter-append}
 use Rattle.std.proofs.lemmas.Bool.{eqb-true, eqb-false}
@@ -38,18 +38,7 @@ use Rattle.guest_course.specs.Posting.{IsOther, put_on, Goes}
 use Rattle.guest_core.specs.GuestCalls.{step_entries}
 use Rattle.guest_core.specs.TurnParts.{Posts, Concludes}
 use Rattle.guest_core.specs.Wiring.{shown, taken_at, IsWired, Posted, SentOn, TakenOn}
-
--- the laws of what is sent and taken
-pub record SendLaws : Type 0 where
-  pub accepted : (sent accepted : List Packet) (p : Packet) → AreAccepted 0 sent accepted → AreAccepted 0 (sent ++ p ∷ []) (accepted ++ p ∷ [])
-  pub full : (sent accepted : List Packet) (p : Packet) → 64 ≤ length accepted → AreAccepted 0 sent accepted → AreAccepted 0 (sent ++ p ∷ []) accepted
-
-pub record TakeLaws : Type 0 where
-  pub same : (s t : GuestState) (journal more : List Event) → TakesNothing s t → flat_map (taken_by s.received s.discarded) more ≡ [] → taken (journal ++ more) t ≡ taken journal s
-  pub tells_same : (s t : GuestState) (journal : List Event) → TakesNothing s t → All (Tells s) journal → All (Tells t) journal
-  pub comes : (s t : GuestState) (journal : List Event) (packet : Packet) → ComesToHand s t → t.hand ≡ Some packet → taken journal t ≡ taken journal s ++ packet ∷ []
-  pub received : (s t : GuestState) (journal : List Event) (k : ℕ) → All (Tells s) journal → Receives s k t → taken (journal ++ PacketIn k ∷ []) t ≡ taken journal s
-  pub tells : (s t : GuestState) (journal : List Event) (k : ℕ) → All (Tells s) journal → Receives s k t → All (Tells t) (journal ++ PacketIn k ∷ [])
+use Rattle.guest_core.specs.Laws.{SendLaws, TakeLaws}
 
 -- ---- whose an end is
 

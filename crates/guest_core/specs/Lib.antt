@@ -5,6 +5,7 @@ pub mod Wiring
 pub mod GuestView
 pub mod Noting
 pub mod Kept
+pub mod Laws
 pub mod GuestCalls
 pub mod PacketCalls
 pub mod Records

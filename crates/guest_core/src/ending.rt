@@ -8,12 +8,12 @@ ghost use Rattle.guest_core.specs.Kept.{IsKept};
 ghost use Rattle.guest_core.specs.GuestCalls.{Makes};
 ghost use Rattle.guest_core.specs.Records.{IsRecord};
 
+use crate::laws::laws;
 use crate::parts::Parts;
 use crate::releasing::close;
 use crate::{GuestRecord, Resources};
 use base_words::{End, Event, Sequence};
 use frame_words::Holder;
-use isolation_law::{halts_stay, row_keeps, run_grows, takes};
 use shootdown::GuestSeat;
 use wire_queue::PassList;
 
@@ -31,10 +31,7 @@ impl Parts {
         ensures passes { self.new.wiring ≡ self.old.wiring }
         ensures same { IsSameGuest (guest_of self.old) (guest_of self.new) }
     {
-        halts_stay();
-        row_keeps();
-        run_grows();
-        takes();
+        laws();
         close(
             &mut self.course,
             &mut self.holder,

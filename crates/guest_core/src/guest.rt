@@ -1,5 +1,5 @@
 //! A guest under the monitor, whose journal is a run from its start.
-ghost use Rattle.std.specs.Prelude.{◌≡◌, ◌≢◌, ◌≤◌, ◌<◌, ◌+◌, [], ◌∷◌, length, None, Some, All, IfOk, OnOk};
+ghost use Rattle.std.specs.Prelude.{◌≡◌, ◌≢◌, ℕ, ◌≤◌, ◌<◌, ◌+◌, [], ◌∷◌, length, None, Some, All, IfOk, OnOk};
 ghost use Rattle.shootdown.specs.declared.view.SidedNote.{SidedNote};
 ghost use Rattle.base_words.specs.declared.events.Event.TheVariants.{Unload, End as Ending};
 ghost use Rattle.base_words.specs.declared.events.End.TheVariants.{Budget};
@@ -125,6 +125,14 @@ impl Guest {
         ensures loaded { shows_loaded (with_side self.old.number token.old.notes) ≡ (processor_at self.old.state token.old.number).loaded }
     {
         self.parts.agree(token);
+    }
+
+    /// Tells that the notes of the guest's seat show what is loaded on each of its processors.
+    #[inline]
+    pub fn tells_loaded(&self)
+        ensures { (p : ℕ) → p < length self.now.start.around.processors → shows_loaded (with_side p self.now.notes) ≡ (processor_at self.now.state p).loaded }
+    {
+        self.parts.tells_loaded();
     }
 
     /// Loads a virtual processor on the token's processor, on which nothing is loaded. `Ended` exactly where the guest has ended;

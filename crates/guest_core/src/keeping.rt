@@ -1,5 +1,5 @@
 //! Room for calls, and what the notes tell.
-ghost use Rattle.std.specs.Prelude.{◌≡◌, ◌≤◌, OnOk};
+ghost use Rattle.std.specs.Prelude.{◌≡◌, ◌<◌, ◌≤◌, ℕ, OnOk, length};
 ghost use Rattle.shootdown.specs.Notes.{with_side};
 ghost use Rattle.isolation_law.specs.GuestState.{processor as processor_at};
 ghost use Rattle.guest_core.specs.GuestView.{guest_of, IsSameGuest};
@@ -42,4 +42,11 @@ impl Parts {
     {
         agree(token, &mut self.seat);
     }
+
+    /// Tells that the notes of the guest's seat show what is loaded on each of its processors.
+    #[inline]
+    pub(crate) fn tells_loaded(&self)
+        requires { IsKept self.now }
+        ensures { (p : ℕ) → p < length (guest_of self.now).start.around.processors → shows_loaded (with_side p (guest_of self.now).notes) ≡ (processor_at (guest_of self.now).state p).loaded }
+    {}
 }

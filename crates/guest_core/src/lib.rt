@@ -6,6 +6,7 @@ mod booting;
 mod ending;
 mod guest;
 mod keeping;
+mod laws;
 mod loading;
 mod parts;
 mod receiving;

@@ -1,5 +1,5 @@
 //! Which virtual processor is loaded on which processor.
-ghost use Rattle.std.specs.Prelude.{◌≡◌, ◌≢◌, ◌<◌, ◌≤◌, ◌+◌, [], ◌∷◌, None, Some, IfSome, IfNone, length, ℕ};
+ghost use Rattle.std.specs.Prelude.{◌≡◌, ◌≢◌, ◌<◌, ◌≤◌, ◌+◌, [], ◌∷◌, None, Some};
 ghost use Rattle.base_words.specs.declared.events.Event.TheVariants.{Unload};
 ghost use Rattle.base_words.specs.declared.events.End.TheVariants.{Budget};
 ghost use Rattle.shootdown.specs.declared.notes.Note.TheVariants.{Made};
@@ -9,10 +9,11 @@ ghost use Rattle.guest_core.specs.Kept.{IsKept};
 ghost use Rattle.guest_core.specs.GuestCalls.{Makes, Learns, LoadsVcpu, told_of_load, MayNote, processor_of};
 
 use crate::Loaded;
+use crate::laws::laws;
 use crate::parts::Parts;
 use crate::using::{count_load, count_unload};
 use base_words::{Event, ProcId, VcpuId};
-use isolation_law::{exchanges, halts_stay, row_keeps, run_grows, takes};
+use isolation_law::exchanges;
 use shootdown::{Note, ProcToken, note};
 
 impl Parts {
@@ -33,10 +34,7 @@ impl Parts {
         ensures passes { self.new.wiring ≡ self.old.wiring }
     {
         exchanges();
-        halts_stay();
-        row_keeps();
-        run_grows();
-        takes();
+        laws();
         let processor = token.number();
         if let Some(end) = self.course.ended {
             note(token, &mut self.seat, Note::Ended(end));
@@ -67,10 +65,7 @@ impl Parts {
         ensures passes { self.new.wiring ≡ self.old.wiring }
     {
         exchanges();
-        halts_stay();
-        row_keeps();
-        run_grows();
-        takes();
+        laws();
         let processor = token.number();
         count_unload(&mut self.uses, &self.course, processor);
         self.course.unload(processor);

@@ -6,10 +6,11 @@ ghost use Rattle.guest_core.specs.GuestView.{guest_of, IsSameGuest};
 ghost use Rattle.guest_core.specs.Kept.{IsKept};
 ghost use Rattle.guest_core.specs.PacketCalls.{IsArmed, Fetches, KeepsEnds, SameSends, TakesIn, TakesPacket};
 
+use crate::laws::laws;
 use crate::parts::Parts;
 use crate::{Packeted, Resources};
 use base_words::Event;
-use isolation_law::{exchanges, halts_stay, hand_keeps, row_keeps, run_grows, takes};
+use isolation_law::{exchanges, hand_keeps, run_grows};
 use std::alloc::{AllocError, Global};
 use std::sync::Wait;
 
@@ -36,7 +37,7 @@ impl Parts {
     {
         hand_keeps();
         run_grows();
-        takes();
+        laws();
         if self.course.hand.is_some() {
             return;
         }
@@ -58,10 +59,7 @@ impl Parts {
         ensures room { (guest_of self.old).room ≤ (guest_of self.new).room + 2 }
     {
         exchanges();
-        halts_stay();
-        row_keeps();
-        run_grows();
-        takes();
+        laws();
         let place = self.course.received.len() as u64;
         self.course.receive(alloc)?;
         self.journal.push(Event::PacketIn(place));

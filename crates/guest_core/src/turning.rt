@@ -14,6 +14,7 @@ ghost use Rattle.guest_core.specs.GuestCalls.{Learns, MayNote, processor_of, loa
 ghost use Rattle.guest_core.specs.TurnParts.{Concludes, MayRun};
 ghost use Rattle.guest_core.specs.Using.{AreUses};
 
+use crate::laws::laws;
 use crate::parts::Parts;
 use crate::releasing::close;
 use crate::serving::{Served, serve};
@@ -23,7 +24,7 @@ use cell_depend::Uses;
 use event_journal::Journal;
 use frame_words::{FrameTable, Holder};
 use guest_course::Course;
-use isolation_law::{exchanges, halts_stay, row_keeps, run_grows, sends, takes};
+use isolation_law::exchanges;
 use shootdown::{Note, ProcToken, note};
 use std::alloc::{AllocError, Global};
 use std::sync::Wait;
@@ -92,11 +93,7 @@ impl Parts {
         ensures room { (guest_of self.old).room ≤ (guest_of self.new).room + 2 }
     {
         exchanges();
-        halts_stay();
-        row_keeps();
-        run_grows();
-        sends();
-        takes();
+        laws();
         let processor = token.number();
         match serve(&mut self.course, alloc, processor, vcpu, cause)? {
             Served::Refill => {
@@ -145,11 +142,7 @@ impl Parts {
         ensures room { (guest_of self.old).room ≤ (guest_of self.new).room + 2 }
     {
         exchanges();
-        halts_stay();
-        row_keeps();
-        run_grows();
-        sends();
-        takes();
+        laws();
         let processor = token.number();
         match self.course.step(processor, vcpu) {
             HwStep::Direct(access) => {

@@ -1,5 +1,5 @@
 //! What a virtual processor's own TLB and direct segment say of an access.
-ghost use Rattle.std.specs.Prelude.{◌≡◌, ◌<◌, ◌%◌, ◌^◌, Some, None, IfSome, option_map};
+ghost use Rattle.std.specs.Prelude.{◌≡◌, ◌<◌, ◌%◌, Some, None, IfSome, option_map};
 ghost use Rattle.base_words.specs.Instruction.{effect};
 ghost use Rattle.base_words.specs.OpcodeMap.{decoded};
 ghost use Rattle.base_words.specs.Place.{is_store as is_store_of};

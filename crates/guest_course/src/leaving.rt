@@ -1,5 +1,5 @@
 //! What is left of a step that stores to a register of the device page: a disk command, or a send.
-ghost use Rattle.std.specs.Prelude.{◌≡◌, ◌<◌, ◌≤◌, ◌+◌, ◌∷◌, ◌++◌, [], ℕ, false, IfOk, OnOk, OnErr, length, map, slice_index_or};
+ghost use Rattle.std.specs.Prelude.{◌≡◌, ◌<◌, ◌≤◌, ◌+◌, ◌∷◌, ◌++◌, [], ℕ, OnOk, OnErr, length, map, slice_index_or};
 ghost use Rattle.std.specs.Vec.{vec_len, vec_capacity};
 ghost use Rattle.private_machine.specs.Backing.{page_at, with_first};
 ghost use Rattle.private_machine.specs.Devices.{with_sent};

@@ -1,5 +1,5 @@
 //! Packets that come to a guest: one comes to hand, and is copied into the page that is armed.
-ghost use Rattle.std.specs.Prelude.{◌≡◌, ◌≢◌, ◌<◌, ◌≤◌, ◌+◌, ◌++◌, ◌∷◌, [], ℕ, IfOk, OnOk, OnErr, Some, None, length, map, option_map, true};
+ghost use Rattle.std.specs.Prelude.{◌≡◌, ◌≢◌, ◌<◌, ◌≤◌, IfOk, OnOk, OnErr, Some, None, length, map, option_map, true};
 ghost use Rattle.std.specs.Vec.{vec_len, vec_capacity};
 ghost use Rattle.base_words.specs.declared.ids.Ppn.{Ppn};
 ghost use Rattle.private_machine.specs.Backing.{page_at, with_first};
@@ -14,7 +14,6 @@ ghost use Rattle.isolation_law.specs.Phases.{GoesOn};
 ghost use Rattle.guest_course.specs.CourseView.{state_of, hand_of, got_of};
 ghost use Rattle.guest_course.specs.CourseRules.{IsSound};
 ghost use Rattle.guest_course.specs.EmulateCalls.{StaysLoaded};
-ghost use Rattle.guest_course.specs.Rebacking.{AllPlain};
 ghost use Rattle.guest_course.specs.ReceivingCalls.{MayDeliver, UsesPlace};
 
 use crate::course::Course;

@@ -1,11 +1,10 @@
 -- Bursts grow by turns.
-use Rattle.std.proofs.Common.{◌≡◌, ◌≢◌, ℕ, zero, suc, ◌+◌, ◌≤◌, List, [], ◌∷◌, ◌++◌, map, refl, sym, ap, ◌∙◌, subst, append_assoc, Option, Some, None, Result, Ok, Err, inl, inr, unwrap_or, arith}
+use Rattle.std.proofs.Common.{◌≡◌, ℕ, ◌+◌, ◌≤◌, List, [], ◌∷◌, ◌++◌, refl, sym, ap, ◌∙◌, subst, append_assoc, Option, Some, None, Result, Ok, Err, inl, inr, unwrap_or, arith}
 use Rattle.std.specs.declared.alloc.AllocError.{AllocError}
-use Rattle.base_words.specs.declared.ids.ProcId.{ProcId}
 use Rattle.base_words.specs.declared.ids.VcpuId.{VcpuId}
 use Rattle.base_words.specs.declared.events.Event.TheVariants.{Direct, Emulate}
 use Rattle.shootdown.specs.declared.notes.Note.{Note}
-use Rattle.shootdown.specs.declared.notes.Note.TheVariants.{Made, Halted, Ended}
+use Rattle.shootdown.specs.declared.notes.Note.TheVariants.{Made}
 use Rattle.shootdown.specs.Notes.{Token}
 use Rattle.guest_core.specs.declared.answers.Turn.{Turn}
 use Rattle.guest_core.specs.declared.answers.Turn.TheVariants as turn
@@ -13,7 +12,7 @@ use Rattle.guest_core.specs.GuestCalls.{processor_of, told_of_turn}
 use Rattle.guest_lock.specs.declared.burst.Burst.{Burst}
 use Rattle.guest_lock.specs.declared.burst.Stop.{Stop}
 use Rattle.guest_lock.specs.declared.burst.Stop.TheVariants as stop
-use Rattle.guest_lock.specs.Told.{with_told, shown, vcpu_shown, told_of_stop, IsStep, AreSteps, Bursts}
+use Rattle.guest_lock.specs.Told.{with_told, shown, vcpu_shown, told_of_stop, AreSteps, Bursts}
 use Rattle.guest_lock.specs.Counted.{counted, none_made, joined}
 use Rattle.guest_core.specs.Noting.{loaded_by}
 use Rattle.guest_lock.proofs.Notes.{append-none, with_told-none, with_told-more, steps-append, steps-loaded, shown-steps, shown-told, loaded_by-append}

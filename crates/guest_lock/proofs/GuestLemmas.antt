@@ -1,10 +1,10 @@
 -- The guests of a run, put together in their order.
-use Rattle.std.proofs.Common.{◌≡◌, ℕ, zero, suc, ◌+◌, ◌≤◌, ◌<◌, min, List, [], ◌∷◌, ◌++◌, length, length-append, refl, sym, ap, ◌∙◌, subst, Option, Some, None, arith, true, false, inl, inr}
+use Rattle.std.proofs.Common.{◌≡◌, ℕ, zero, suc, ◌+◌, ◌≤◌, ◌<◌, min, List, [], ◌∷◌, ◌++◌, length, length-append, refl, sym, subst, Some, arith, true, false}
 use Rattle.std.specs.Prelude.{slice_get, nat_lt}
 use Rattle.atomic_table.specs.Seated.{TableId}
 use Rattle.isolation_law.specs.Start.{Boot}
 use Rattle.guest_core.specs.GuestView.{Monitored, Shared}
-use Rattle.guest_lock.specs.Guests.{IsGuestOf, GuestsFrom, GuestsBelow, has_guest, IsThere}
+use Rattle.guest_lock.specs.Guests.{IsGuestOf, GuestsFrom, GuestsBelow}
 
 pub below-none : (starts : List Boot) (board : TableId) (shared : Shared) → GuestsBelow starts board shared 0 []
 below-none starts board shared = record { each = λ i g e. absurd cc; count = let e : 0 ≡ min 0 (length starts) = omega arith in e }

@@ -1,14 +1,15 @@
 -- Notes of a token, list behind list.
-use Rattle.std.proofs.Common.{◌≡◌, ◌≢◌, ℕ, zero, suc, ◌+◌, ◌==◌, if◌then◌else◌, true, false, List, [], ◌∷◌, ◌++◌, map, refl, sym, ap, ◌∙◌, subst, append_assoc, eq-eqb, ne_eqb, Option, None, inl, inr, unwrap_or, arith}
+use Rattle.std.proofs.Common.{◌≡◌, ◌≢◌, ℕ, zero, suc, ◌+◌, ◌==◌, if◌then◌else◌, true, false, List, [], ◌∷◌, ◌++◌, map, refl, sym, ap, ◌∙◌, subst, append_assoc, eq-eqb, ne_eqb, Option, None, inl, inr, arith}
 use Rattle.std.proofs.lemmas.List.{map-append}
 use Rattle.shootdown.specs.declared.notes.Note.{Note}
 use Rattle.shootdown.specs.declared.view.SidedNote.{SidedNote}
 use Rattle.shootdown.specs.Notes.{Token, sided, with_side}
+use Rattle.guest_core.specs.GuestView.{Monitored}
+use Rattle.guest_core.specs.GuestCalls.{Learns}
 use Rattle.guest_core.specs.Noting.{loaded_by, loaded_by_note, shows_loaded}
-use Rattle.guest_core.specs.GuestCalls.{processor_of}
 use Rattle.base_words.specs.declared.ids.ProcId.{ProcId}
 use Rattle.base_words.specs.declared.ids.VcpuId.{VcpuId}
-use Rattle.guest_lock.specs.Told.{with_told, shown, vcpu_shown, IsStep, AreSteps}
+use Rattle.guest_lock.specs.Told.{with_told, shown, AreInStep, IsStep, AreSteps}
 
 pub append-none : {A : Type 0} (xs : List A) → xs ++ [] ≡ xs
 append-none [] = refl
@@ -43,6 +44,23 @@ with_side-told g token told = with_side-append g token.notes (map (sided g) told
 
 pub with_side-told-others : (g h : ℕ) (token : Token) (told : List Note) → h ≢ g → with_side g (with_told token h told).notes ≡ with_side g token.notes
 with_side-told-others g h token told ne = with_side-append g token.notes (map (sided h) told) ∙ ap (λ l. with_side g token.notes ++ l) (with_side-others g h told ne) ∙ append-none (with_side g token.notes)
+
+-- what both are told leaves a token and a seat in step
+pub in_step-told : (g p : ℕ) (token seat : List SidedNote) (told : List Note) → with_side g token ≡ with_side p seat → with_side g (token ++ map (sided g) told) ≡ with_side p (seat ++ map (sided p) told)
+in_step-told g p token seat told e =
+    with_side-append g token (map (sided g) told)
+    ∙ ap (λ l. with_side g token ++ l) (with_side-own g told)
+    ∙ ap (λ l. l ++ told) e
+    ∙ sym (with_side-append p seat (map (sided p) told) ∙ ap (λ l. with_side p seat ++ l) (with_side-own p told))
+
+-- so does a call of the guest's
+pub in_step-learns : (old : Monitored) (token : Token) (told : List Note) (new : Monitored) (after : Token) → Learns old token told new after → new.number ≡ old.number → AreInStep token old → AreInStep after new
+in_step-learns old token told new after learns same e =
+    ap (λ (t : Token). with_side new.number t.notes) learns.token_is
+    ∙ ap (λ (n : ℕ). with_side n (token.notes ++ map (sided old.number) told)) same
+    ∙ in_step-told old.number token.number token.notes old.notes told e
+    ∙ ap (with_side token.number) (sym learns.seat)
+    ∙ ap (λ (t : Token). with_side t.number new.notes) (sym learns.token_is)
 
 pub shown-told : (g : ℕ) (token : Token) (told : List Note) → shown g (with_told token g told) ≡ loaded_by (shown g token) told
 shown-told g token told = ap shows_loaded (with_side-told g token told) ∙ loaded_by-append None (with_side g token.notes) told

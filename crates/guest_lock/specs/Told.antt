@@ -7,6 +7,7 @@ use Rattle.base_words.specs.declared.events.Event.TheVariants.{Direct, Emulate}
 use Rattle.shootdown.specs.declared.notes.Note.{Note}
 use Rattle.shootdown.specs.declared.notes.Note.TheVariants.{Made, Halted, Ended}
 use Rattle.shootdown.specs.Notes.{Token, sided, with_side}
+use Rattle.guest_core.specs.GuestView.{Monitored}
 use Rattle.guest_core.specs.Noting.{shows_loaded}
 use Rattle.guest_core.specs.GuestCalls.{processor_of, told_of_load}
 use Rattle.guest_core.specs.declared.answers.Loaded.{Loaded}
@@ -25,6 +26,10 @@ shown g token = shows_loaded (with_side g token.notes)
 
 abbrev pub vcpu_shown : ℕ → Token → VcpuId
 vcpu_shown g token = record { 0 = unwrap_or (shown g token) 0 }
+
+-- a token noted of a guest what the guest's seat noted of the token's processor
+abbrev pub AreInStep : Token → Monitored → Type 0
+AreInStep token g = with_side g.number token.notes ≡ with_side token.number g.notes
 
 -- ---- loads
 

@@ -82,6 +82,7 @@ impl<N: Starts, const G: u8> GuestCell<N, G> {
         ensures { token.new ≡ with_told token.old G (told_of_turn (processor_of token.old) (vcpu_shown G token.old) result) }
     {
         let mut kept = self.guest.lock(rt);
+        kept.agree(token);
         let turn = kept.turn(rt, alloc, token, resources, gate, at);
         if kept.guest.end().is_some() {
             self.moved.notify_all();

@@ -1,5 +1,5 @@
 //! The guests of a run, each under its lock.
-ghost use Rattle.std.specs.Prelude.{◌≡◌, ◌+◌, ◌≤◌, ◌++◌, [], OnOk, IfOk, length};
+ghost use Rattle.std.specs.Prelude.{◌+◌, ◌≤◌, OnOk, IfOk, length};
 ghost use Rattle.std.specs.Vec.Iter.{into_iter_items};
 ghost use Rattle.guest_lock.specs.Guests.{IsThere, GuestsFrom, GuestsBelow};
 

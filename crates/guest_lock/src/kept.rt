@@ -7,7 +7,7 @@ ghost use Rattle.guest_core.specs.GuestView.{AreOf};
 ghost use Rattle.guest_core.specs.GuestCalls.{processor_of, told_of_turn};
 ghost use Rattle.guest_lock.specs.declared.burst.Stop.TheVariants.{Paused};
 ghost use Rattle.guest_lock.specs.Fits.{Fits, HasVcpu};
-ghost use Rattle.guest_lock.specs.Told.{with_told, shown, vcpu_shown, told_of_loading, Bursts};
+ghost use Rattle.guest_lock.specs.Told.{with_told, shown, vcpu_shown, told_of_loading, AreInStep, Bursts};
 
 use crate::Starts;
 use crate::burst::{BURST_TURNS, Burst, Stop};
@@ -74,7 +74,18 @@ impl<N: Starts, const G: u8> Kept<N, G> {
         }
     }
 
+    /// Tells that what the token noted of the guest is what the guest's seat noted of the token's processor.
+    #[inline]
+    pub(crate) fn agree(&mut self, token: &mut ProcToken)
+        requires token { Fits N.starts N.board token.old }
+        ensures in_step { AreInStep token.new self.new.guest }
+        ensures same { token.new ≡ token.old }
+    {
+        self.guest.agree(token);
+    }
+
     /// Passes the gate, makes room, lets a packet come, and makes a turn of what is loaded on the token's processor.
+    #[inline]
     pub(crate) fn turn<R: Wait, T: Gate>(
         &mut self,
         rt: &R,
@@ -85,15 +96,17 @@ impl<N: Starts, const G: u8> Kept<N, G> {
         at: GatePoint,
     ) -> Result<Turn, AllocError>
         requires token { Fits N.starts N.board token.old }
+        requires in_step { AreInStep token.old self.old.guest }
         requires loaded { shown G token.old ≢ None }
         requires table { resources.now.table.now ≡ N.shared.table }
         requires wires { resources.now.wires.now ≡ N.shared.wires }
-        ensures { token.new ≡ with_told token.old G (told_of_turn (processor_of token.old) (vcpu_shown G token.old) result) }
+        ensures told { token.new ≡ with_told token.old G (told_of_turn (processor_of token.old) (vcpu_shown G token.old) result) }
+        ensures in_step { AreInStep token.new self.new.guest }
     {
         gate.pass(at);
         self.guest.make_room()?;
         self.receive(rt, alloc, resources)?;
-        self.guest.agree(token);
+        self.guest.tells_loaded();
         self.guest.turn(rt, alloc, token, resources)
     }
 
@@ -116,6 +129,7 @@ impl<N: Starts, const G: u8> Kept<N, G> {
         ensures whole { result.stop ≡ Paused → (result.steps ≡ steps) ⊎ (result.turns ≡ BURST_TURNS) }
         ensures told { Bursts token.old G result token.new }
     {
+        self.agree(token);
         let mut burst = Burst::new();
         for turn in 0..BURST_TURNS {
             if burst.steps == steps || burst.stop != Stop::Paused {

@@ -1,7 +1,7 @@
 //! Laws of what tokens are told, for callers: functions without a body, whose contracts are the laws.
 ghost use Rattle.std.specs.Prelude.{◌≡◌, ◌≢◌, ℕ, ◌++◌, [], List};
 ghost use Rattle.shootdown.specs.declared.notes.Note.{Note};
-ghost use Rattle.shootdown.specs.Notes.{Token, with_side};
+ghost use Rattle.shootdown.specs.Notes.{Token};
 ghost use Rattle.guest_core.specs.Noting.{loaded_by};
 ghost use Rattle.guest_lock.specs.declared.burst.Burst.{Burst};
 ghost use Rattle.guest_lock.specs.declared.burst.Stop.TheVariants.{Paused};

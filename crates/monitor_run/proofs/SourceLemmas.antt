@@ -1,5 +1,5 @@
 -- What guests are started from: their images, and their disks by number.
-use Rattle.std.proofs.Common.{◌≡◌, ◌∙◌, ℕ, zero, suc, ◌+◌, ◌<◌, ◌≤◌, List, [], ◌∷◌, ◌++◌, map, length, get_or, Option, Some, refl, ap, ap₂, sym, subst, length-append, arith}
+use Rattle.std.proofs.Common.{◌≡◌, ◌∙◌, ℕ, zero, suc, ◌+◌, ◌<◌, ◌≤◌, List, [], ◌∷◌, ◌++◌, map, length, get_or, Option, Some, refl, ap, sym, subst, length-append, arith}
 use Rattle.std.specs.List.{AllByRecursion as ByRecursion}
 use Rattle.std.specs.Prelude.{All}
 use Rattle.std.specs.Arc.{arc_value}
@@ -9,7 +9,7 @@ use Rattle.base_words.specs.declared.page.Page.{Page}
 use Rattle.cow_disk.specs.DiskView.{bytes_of}
 use Rattle.std.proofs.lemmas.List.Elements.{All-from_recursion}
 use Rattle.elf_image.specs.declared.image.Image.{Image}
-use Rattle.private_machine.specs.Disk.{Block, as_given}
+use Rattle.private_machine.specs.Disk.{as_given}
 use Rattle.guest_course.specs.BootCalls.{given_blocks}
 use Rattle.machine_desc.specs.declared.machine.GuestSpec.{GuestSpec}
 use Rattle.admission.specs.Started.{AreStarted, IsStarted}

@@ -1,5 +1,5 @@
 //! Puts the printed texts on the sink.
-ghost use Rattle.std.specs.Prelude.{◌≡◌, ◌++◌};
+ghost use Rattle.std.specs.Prelude.{◌++◌};
 ghost use Rattle.outside_io.specs.Writing.{Puts, Writes};
 ghost use Rattle.monitor_run.specs.Counted.{sums_of as sums_in};
 ghost use Rattle.monitor_run.specs.Report.{numbered, guest_text, sums_line as sums_line_of, sums_text, record_text, alone_text};

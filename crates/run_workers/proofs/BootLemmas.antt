@@ -1,18 +1,18 @@
 -- Guests at their starts.
-use Rattle.std.proofs.Common.{◌≡◌, ◌≢◌, ℕ, zero, suc, ◌+◌, ◌*◌, ◌<◌, ◌≤◌, ◌^◌, List, [], ◌∷◌, ◌++◌, map, length, All, refl, sym, ap, ◌∙◌, subst, arith, Option, Some, None, length-append, append-nil}
-use Rattle.std.specs.Prelude.{slice_get, slice_index_or}
+use Rattle.std.proofs.Common.{◌≡◌, ℕ, zero, suc, ◌+◌, ◌*◌, ◌<◌, ◌≤◌, ◌^◌, List, [], ◌∷◌, ◌++◌, map, length, All, refl, sym, ap, ◌∙◌, subst, arith, Some, length-append}
+use Rattle.std.specs.Prelude.{slice_get}
 use Rattle.atomic_table.specs.Seated.{TableId}
 use Rattle.base_words.specs.declared.ids.NodeId.{NodeId}
 use Rattle.base_words.specs.declared.frame.Frame.{Frame}
 use Rattle.run_workers.specs.declared.source.Source.{Source}
 use Rattle.shootdown.specs.Notes.{Token, Seat}
-use Rattle.shootdown.specs.Making.{AreFresh, numbered, fresh_token, fresh_seat}
+use Rattle.shootdown.specs.Making.{AreFresh, numbered, fresh_seat}
 use Rattle.machine_desc.specs.declared.machine.GuestSpec.{GuestSpec}
 use Rattle.machine_desc.specs.declared.machine.Machine.{Machine}
 use Rattle.machine_desc.specs.declared.plan.Plan.{Plan}
 use Rattle.machine_desc.specs.Bounds.{IsGuest}
 use Rattle.machine_desc.specs.Described.{Described, described_seen}
-use Rattle.machine_desc.specs.Accepted.{IsAccepted, IsDescribed}
+use Rattle.machine_desc.specs.Accepted.{IsDescribed}
 use Rattle.guest_course.specs.declared.site.Around.{Around}
 use Rattle.guest_course.specs.BootCalls.{AllBelow, found_of}
 use Rattle.guest_course.specs.CourseView.{surroundings}

@@ -1,5 +1,5 @@
 -- Guests that were only asked tell the same of their wires.
-use Rattle.std.proofs.Common.{◌≡◌, ◌≢◌, ℕ, zero, suc, ◌+◌, ◌<◌, ◌==◌, Bool, true, false, List, [], ◌∷◌, length, length-set, set, Some, None, refl, sym, ap, ◌∙◌, subst, arith}
+use Rattle.std.proofs.Common.{◌≡◌, ◌≢◌, ℕ, zero, suc, ◌+◌, ◌<◌, ◌==◌, Bool, true, false, List, [], ◌∷◌, length, length-set, set, Some, refl, sym, ap, ◌∙◌, subst, arith}
 use Rattle.std.specs.Prelude.{slice_get}
 use Rattle.std.proofs.lemmas.Bool.{eqb-true, eqb-false}
 use Rattle.wire_queue.specs.ListSteps.{SameEnds, HasTaken}
@@ -7,7 +7,7 @@ use Rattle.wire_queue.specs.PassLists.{sending_to, taking_from}
 use Rattle.wire_queue.specs.declared.lists.PassList.{PassList}
 use Rattle.guest_core.specs.GuestView.{Monitored, Shared, IsSameGuest}
 use Rattle.guest_core.specs.PacketCalls.{IsArmed, KeepsEnds, SameSends}
-use Rattle.run_workers.specs.Draining.{HasAllOf, HasAll, Receives, AreKept, AreOthers}
+use Rattle.run_workers.specs.Draining.{HasAll, Receives, AreKept, AreOthers}
 
 -- ---- lists by their places
 

@@ -1,23 +1,19 @@
 -- A record is due where each guest's seat and each processor's token agree.
-use Rattle.std.proofs.Common.{◌≡◌, ◌≢◌, ℕ, zero, suc, ◌+◌, ◌<◌, ◌≤◌, ◌==◌, ◌&&◌, if◌then◌else◌, cond, Bool, true, false, List, [], ◌∷◌, ◌++◌, map, length, All, refl, sym, ap, ◌∙◌, subst, arith, eq-eqb, ne_eqb, eqb, Option, Some, None, inl, inr, ◌⊎◌, count_by}
+use Rattle.std.proofs.Common.{◌≡◌, ℕ, ◌<◌, ◌==◌, ◌&&◌, if◌then◌else◌, Bool, true, false, List, [], ◌∷◌, ◌++◌, map, refl, sym, ap, ◌∙◌, subst, eq-eqb, ne_eqb, Some, inl, inr}
 use Rattle.std.specs.Prelude.{slice_get}
 use Rattle.std.proofs.lemmas.Bool.Decides.{eqb_tells}
 use Rattle.std.proofs.lemmas.Bool.{eqb-true}
-use Rattle.base_words.specs.declared.events.Event.{Event}
 use Rattle.base_words.specs.declared.events.End.{End}
-use Rattle.base_words.specs.declared.events.End.TheVariants.{Budget}
-use Rattle.event_journal.specs.Steps.{is_step_of, steps_in}
 use Rattle.shootdown.specs.declared.notes.Note.{Note}
-use Rattle.shootdown.specs.declared.notes.Note.TheVariants.{Made, Halted, Ended}
+use Rattle.shootdown.specs.declared.notes.Note.TheVariants.{Halted, Ended}
 use Rattle.shootdown.specs.declared.view.SidedNote.{SidedNote}
 use Rattle.shootdown.specs.Notes.{sided, with_side}
-use Rattle.isolation_law.specs.GuestState.{GuestState, vcpu_of}
+use Rattle.isolation_law.specs.GuestState.{GuestState}
 use Rattle.guest_core.specs.Noting.{HoldsOf, MayFollow, is_step_of as is_note_step_of, AreInOrder as AreNotesInOrder}
 use Rattle.guest_core.specs.declared.records.SliceRecord.{SliceRecord}
 use Rattle.guest_core.specs.declared.records.Cut.{Cut}
 use Rattle.guest_core.specs.declared.records.Cut.TheVariants.{Whole, VcpuHalted, GuestEnded}
 use Rattle.guest_lock.specs.declared.burst.Stop.{Stop}
-use Rattle.guest_lock.specs.declared.burst.Stop.TheVariants as stop
 use Rattle.guest_lock.specs.Told.{told_of_stop}
 use Rattle.run_workers.specs.Planned.{Planned, is_of}
 use Rattle.run_workers.specs.PlanDue.{HasCause, AreSliced, MayCome, AllMayCome, AreInOrder}

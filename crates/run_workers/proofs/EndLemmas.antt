@@ -1,5 +1,5 @@
 -- One guest more has ended.
-use Rattle.std.proofs.Common.{◌≡◌, ◌≢◌, ℕ, zero, suc, ◌+◌, ◌<◌, List, [], ◌∷◌, ◌++◌, length, length-append, All, sym, ap, ◌∙◌, subst, arith, refl, Some, None, true}
+use Rattle.std.proofs.Common.{◌≡◌, ◌≢◌, ℕ, zero, suc, ◌+◌, ◌<◌, List, [], ◌∷◌, ◌++◌, length, length-append, All, sym, ap, ◌∙◌, subst, arith, refl, Some, true}
 use Rattle.std.specs.Prelude.{slice_get}
 use Rattle.atomic_table.specs.Seated.{TableId}
 use Rattle.base_words.specs.declared.events.Event.{Event}
@@ -13,7 +13,6 @@ use Rattle.isolation_law.specs.Start.{Boot, start}
 use Rattle.isolation_law.specs.WireHistory.{EndsWaiting}
 use Rattle.guest_core.specs.GuestView.{Monitored, Shared, IsSameGuest}
 use Rattle.guest_core.specs.Noting.{IsNoted}
-use Rattle.guest_core.specs.PacketCalls.{IsArmed}
 use Rattle.guest_core.specs.Records.{IsRecord}
 use Rattle.guest_core.specs.Wiring.{IsWired, Posted}
 use Rattle.wire_queue.specs.Between.{Made}

@@ -1,17 +1,17 @@
 -- A journal's entries, as the notes of its processors tell them.
-use Rattle.std.proofs.Common.{◌≡◌, ◌≢◌, ℕ, zero, suc, ◌+◌, ◌<◌, ◌==◌, ◌&&◌, if◌then◌else◌, cond, Bool, true, false, List, [], ◌∷◌, ◌++◌, map, length, All, refl, sym, ap, ◌∙◌, subst, arith, eq-eqb, inl, inr, ◌⊎◌, Option, Some, None, count_by, sum_by, flat_map, filter}
+use Rattle.std.proofs.Common.{◌≡◌, ℕ, ◌+◌, ◌==◌, ◌&&◌, if◌then◌else◌, cond, Bool, true, false, List, [], ◌∷◌, ◌++◌, refl, sym, ap, ◌∙◌, subst, arith, eq-eqb, inl, inr, ◌⊎◌, Option, Some, None, count_by}
 use Rattle.std.proofs.lemmas.List.Sums.{sum_by-append}
 use Rattle.std.proofs.lemmas.Bool.{eqb-true}
 use Rattle.base_words.specs.declared.ids.ProcId.{ProcId}
 use Rattle.base_words.specs.declared.events.Event.{Event}
 use Rattle.base_words.specs.declared.events.Event.TheVariants.{Direct, Refill, Emulate, Begin, Ack, Finish, Load, Unload, PacketIn, Discard, Skip, CellFails, End as Ending}
-use Rattle.event_journal.specs.Steps.{is_step_of, steps_in}
+use Rattle.event_journal.specs.Steps.{is_step_of}
 use Rattle.shootdown.specs.declared.notes.Note.{Note}
 use Rattle.shootdown.specs.declared.notes.Note.TheVariants.{Made, Asked, Halted, Ended, Dead}
 use Rattle.shootdown.specs.declared.view.SidedNote.{SidedNote}
 use Rattle.shootdown.specs.Notes.{sided, with_side}
 use Rattle.guest_core.specs.Noting.{noted_by, noted, is_made, made_in, loaded_by, loaded_by_note}
-use Rattle.run_workers.specs.PlanDue.{is_load_of, loads_in, HasUnload, IsUnloaded, AreUnloaded}
+use Rattle.run_workers.specs.PlanDue.{is_load_of, HasUnload, IsUnloaded, AreUnloaded}
 use Rattle.run_workers.proofs.NoteLists.{tally, tally-append, with_side-append}
 
 -- ---- how many entries are of a kind

@@ -1,5 +1,5 @@
 -- One more item, and one more guest.
-use Rattle.std.proofs.Common.{◌≡◌, ◌≢◌, ℕ, zero, suc, ◌+◌, ◌<◌, ◌≤◌, ◌==◌, if◌then◌else◌, cond, Bool, true, false, List, [], ◌∷◌, ◌++◌, map, take, drop, length, get_or, refl, sym, ap, ◌∙◌, subst, arith, append_assoc, append-nil, Option, Some, None, set}
+use Rattle.std.proofs.Common.{◌≡◌, ℕ, zero, suc, ◌+◌, ◌<◌, ◌≤◌, ◌==◌, if◌then◌else◌, Bool, true, false, List, [], ◌∷◌, ◌++◌, map, take, drop, length, get_or, refl, sym, ap, ◌∙◌, subst, arith, append-nil, Option, Some, None}
 use Rattle.std.specs.Prelude.{slice_get, slice_set}
 use Rattle.atomic_table.specs.Seated.{TableId}
 use Rattle.base_words.specs.declared.ids.ProcId.{ProcId}
@@ -10,7 +10,6 @@ use Rattle.base_words.specs.declared.ids.CellId.{CellId}
 use Rattle.base_words.specs.declared.ids.Ppn.{Ppn}
 use Rattle.base_words.specs.declared.moves.MoveKind.{MoveKind}
 use Rattle.shootdown.specs.Notes.{Token, Seat, sided}
-use Rattle.shootdown.specs.declared.view.SidedNote.{SidedNote}
 use Rattle.isolation_law.specs.GuestState.{GuestState}
 use Rattle.isolation_law.specs.Start.{Boot}
 use Rattle.machine_desc.specs.declared.plan.Item.{Item}
@@ -20,7 +19,7 @@ use Rattle.guest_core.specs.declared.records.SliceRecord.{SliceRecord}
 use Rattle.guest_core.specs.GuestView.{Monitored, Shared}
 use Rattle.guest_lock.specs.Guests.{GuestsFrom}
 use Rattle.run_workers.specs.Planned.{Planned, planned}
-use Rattle.run_workers.specs.Slices.{own, AreTold, Serves}
+use Rattle.run_workers.specs.Slices.{own, AreTold}
 use Rattle.run_workers.specs.Working.{is_own, planned_as, CarriesOne}
 use Rattle.run_workers.specs.Ending.{Leaves, AreLeft}
 use Rattle.run_workers.specs.Dealt.{queue_of, front, behind, without_front, dealt}

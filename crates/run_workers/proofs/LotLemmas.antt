@@ -1,22 +1,17 @@
 -- The holder of a lot is what a guest of its frames is booted with.
-use Rattle.std.proofs.Common.{◌≡◌, ◌≢◌, ℕ, zero, suc, ◌+◌, ◌*◌, ◌/◌, ◌<◌, ◌≤◌, ◌==◌, ◌&&◌, not, cond, if◌then◌else◌, Option, Some, Bool, true, false, List, [], ◌∷◌, length, map, drop, get_or, refl, sym, ap, ◌∙◌, subst, arith}
-use Rattle.std.proofs.lemmas.Bool.{eq-eqb, ne_eqb, eqb-true, and_parts, and_left, and_right, and_from}
+use Rattle.std.proofs.Common.{◌≡◌, ℕ, zero, suc, ◌+◌, ◌*◌, ◌/◌, ◌<◌, ◌==◌, ◌&&◌, not, cond, if◌then◌else◌, Some, Bool, true, false, List, [], ◌∷◌, length, map, drop, get_or, refl, sym, ap, ◌∙◌, subst, arith}
+use Rattle.std.proofs.lemmas.Bool.{eqb-true, and_parts, and_left, and_right, and_from}
 use Rattle.std.proofs.lemmas.List.{length-map}
 use Rattle.std.proofs.lemmas.List.Elements.{All-head, All-tail, All-get_or}
 use Rattle.std.proofs.lemmas.List.Sums.{sum_by-cons}
 use Rattle.std.specs.Prelude.{count_by, All, Contains, slice_get}
-use mathlib.Core.Logic.{dite}
-use native.Mathlib.Decide.{ℕ_discrete}
 use Rattle.base_words.specs.declared.frame.Frame.{Frame}
 use Rattle.base_words.specs.declared.ids.CellId.{CellId}
 use Rattle.frame_words.specs.FrameWords.{frame_word}
 use Rattle.frame_words.specs.Splits.{frame_times}
-use Rattle.frame_words.specs.Views.{hold, frame_holds, cell_loans, HeldUnder, OneGeneration}
+use Rattle.frame_words.specs.Views.{hold, frame_holds, cell_loans}
 use Rattle.frame_words.specs.Holders.{MadeTable}
-use Rattle.frame_words.specs.declared.view.Hold.{Hold}
-use Rattle.frame_words.specs.declared.view.View.{View}
 use Rattle.node_frames.specs.Layout.{Layout, layout_of}
-use Rattle.node_frames.specs.Left.{Left}
 use Rattle.isolation_law.specs.Surroundings.{Surroundings, cell_of_frame, home_cell}
 use Rattle.isolation_law.specs.Start.{Found, Boot}
 use Rattle.machine_desc.specs.declared.machine.GuestSpec.{GuestSpec}
@@ -29,7 +24,7 @@ use Rattle.guest_course.specs.declared.site.Around.{Around}
 use Rattle.guest_core.specs.Holding.{is_copy, frames_around, found_times, HoldsFor, FitsAround}
 use Rattle.run_workers.specs.Booting.{IsSite}
 use Rattle.node_frames.specs.Places.{cell_of_node}
-use Rattle.boot_frames.specs.Loans.{is_lent, loans_in, cell_of_frame as frame_cell}
+use Rattle.boot_frames.specs.Loans.{loans_in, cell_of_frame as frame_cell}
 use Rattle.boot_frames.specs.Lots.{Has, IsNew}
 use Rattle.boot_frames.specs.declared.lots.Lot.{Lot}
 

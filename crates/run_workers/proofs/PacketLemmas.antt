@@ -1,14 +1,12 @@
 -- What each guest took of what another sent to it is the first of what the wire between them accepted.
-use Rattle.std.proofs.Common.{◌≡◌, ◌≢◌, ◌⊎◌, inl, inr, ℕ, zero, suc, ◌+◌, ◌<◌, ◌≤◌, ◌==◌, Bool, true, false, cond, List, [], ◌∷◌, ◌++◌, map, filter, get_or, length, All, Option, Some, None, IsSome, IsTrue, refl, sym, ap, ◌∙◌, subst, arith}
+use Rattle.std.proofs.Common.{◌≡◌, ◌≢◌, inl, inr, ℕ, zero, suc, ◌+◌, ◌<◌, ◌≤◌, Bool, true, false, cond, List, [], ◌∷◌, ◌++◌, map, filter, get_or, length, All, Option, Some, None, IsSome, refl, sym, ap, ◌∙◌, subst, arith}
 use Rattle.std.specs.Prelude.{slice_get, slice_index_or}
 use Rattle.std.proofs.lemmas.Bool.{eq-eqb}
-use Rattle.std.proofs.lemmas.List.{map-append, append-nil, length-append}
-use Rattle.base_words.specs.declared.events.Event.{Event}
+use Rattle.std.proofs.lemmas.List.{map-append, length-append}
 use Rattle.private_machine.specs.Operation.{Packet}
 use Rattle.isolation_law.specs.GuestState.{GuestState}
-use Rattle.isolation_law.specs.OwnHistory.{no_packet}
 use Rattle.isolation_law.specs.Start.{Boot}
-use Rattle.isolation_law.specs.WireHistory.{sent_to, AreAccepted, taken, is_from, taken_from, IsFromOther, EndsWaiting, MeetsWire}
+use Rattle.isolation_law.specs.WireHistory.{sent_to, AreAccepted, taken, is_from, taken_from, IsFromOther, MeetsWire}
 use Rattle.wire_queue.specs.Between.{Made, guest_count, entry, wire_between}
 use Rattle.wire_queue.specs.Closing.{AreInOrder}
 use Rattle.wire_queue.specs.Ends.{Wire, Sending, Taking}
@@ -18,10 +16,10 @@ use Rattle.wire_queue.specs.PassTables.{sends_of, takes_of}
 use Rattle.wire_queue.specs.Steps.{AreFirstOf}
 use Rattle.wire_queue.specs.declared.lists.PassList.{PassList}
 use Rattle.guest_core.specs.declared.records.GuestRecord.{GuestRecord}
-use Rattle.guest_core.specs.Wiring.{shown, taken_at, IsWired, Posted}
+use Rattle.guest_core.specs.Wiring.{shown, taken_at}
 use Rattle.run_workers.specs.Ending.{Told, AllTold, EndDrained}
 use Rattle.run_workers.specs.WholeRecord.{MeetWires}
-use Rattle.run_workers.proofs.WholeLemmas.{get-index, side}
+use Rattle.run_workers.proofs.WholeLemmas.{side}
 
 same-some : {A : Type 0} (x y : A) → Some x ≡ Some y → x ≡ y
 same-some x y e = cc

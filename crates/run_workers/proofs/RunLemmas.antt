@@ -1,5 +1,5 @@
 -- A named run: its guests under their locks, its workers before and after, and what is left.
-use Rattle.std.proofs.Common.{◌≡◌, ◌≢◌, ℕ, zero, suc, ◌+◌, ◌<◌, ◌≤◌, List, [], ◌∷◌, ◌++◌, map, length, All, refl, sym, ap, ◌∙◌, subst, arith, append_assoc, length-append, Option, Some, None, get_or, Vec}
+use Rattle.std.proofs.Common.{◌≡◌, ℕ, zero, suc, ◌+◌, ◌<◌, List, [], ◌∷◌, ◌++◌, map, length, All, refl, sym, ap, ◌∙◌, subst, arith, append_assoc, length-append, Option, Some, None, get_or, Vec}
 use Rattle.std.specs.Prelude.{slice_get, slice_index_or, option_map}
 use Rattle.std.specs.declared.alloc.Global.{Global}
 use Rattle.atomic_table.specs.Seated.{TableId}
@@ -15,7 +15,7 @@ use Rattle.guest_core.specs.Records.{IsRecord}
 use Rattle.guest_core.specs.declared.records.GuestRecord.{GuestRecord}
 use Rattle.guest_core.specs.declared.records.SliceRecord.{SliceRecord}
 use Rattle.guest_lock.specs.Fits.{Fits}
-use Rattle.guest_lock.specs.Guests.{IsGuestOf, GuestsFrom}
+use Rattle.guest_lock.specs.Guests.{GuestsFrom}
 use Rattle.run_workers.specs.Planned.{Planned, planned}
 use Rattle.run_workers.specs.WholeRecord.{AreRecords}
 use Rattle.run_workers.specs.Slices.{own, AreTold}
@@ -24,16 +24,15 @@ use Rattle.run_workers.specs.Working.{ItemFits, IsOn}
 use Rattle.run_workers.specs.Workers.{IsReady, Works}
 use Rattle.run_workers.specs.Parts.{token_of, slices_of}
 use Rattle.run_workers.specs.Booting.{start_of, IsFresh}
-use Rattle.run_workers.specs.Ending.{Leaves, AreLeft, AllTold}
+use Rattle.run_workers.specs.Ending.{AreLeft, AllTold}
 use Rattle.std.proofs.lemmas.List.Elements.{All-nil, All-cons}
 use Rattle.wire_queue.specs.Between.{Made, guest_count}
 use Rattle.wire_queue.specs.PassLists.{IsListOf, AreAllOf}
 use Rattle.wire_queue.specs.PassTables.{guests_of}
 use Rattle.wire_queue.specs.declared.lists.PassList.{PassList}
-use Rattle.run_workers.specs.Named.{MayRun}
 use Rattle.run_workers.specs.declared.workers.Worker.{Worker}
 use Rattle.run_workers.proofs.NoteLists.{Every}
-use Rattle.run_workers.proofs.WholeLemmas.{get-index, all-get, get-there}
+use Rattle.run_workers.proofs.WholeLemmas.{get-index, get-there}
 use Rattle.run_workers.proofs.DueLemmas.{IsPlace}
 
 -- ---- lists by their places

@@ -1,6 +1,5 @@
 -- What all notes of a processor tell, slice by slice.
-use Rattle.std.proofs.Common.{◌≡◌, ◌≢◌, ℕ, zero, suc, ◌+◌, ◌<◌, ◌≤◌, ◌==◌, ◌&&◌, if◌then◌else◌, cond, Bool, true, false, List, [], ◌∷◌, ◌++◌, map, length, refl, sym, ap, ◌∙◌, subst, arith, eq-eqb, append_assoc, Option, Some, None, inl, inr, count_by}
-use Rattle.std.proofs.lemmas.Bool.Decides.{eqb_tells}
+use Rattle.std.proofs.Common.{◌≡◌, ℕ, ◌+◌, ◌≤◌, ◌==◌, ◌&&◌, if◌then◌else◌, cond, Bool, true, false, List, [], ◌∷◌, ◌++◌, map, refl, sym, ap, ◌∙◌, subst, arith, append_assoc, None, count_by}
 use Rattle.event_journal.specs.Steps.{is_step_of}
 use Rattle.shootdown.specs.declared.notes.Note.{Note}
 use Rattle.shootdown.specs.declared.view.SidedNote.{SidedNote}
@@ -10,7 +9,7 @@ use Rattle.guest_core.specs.declared.records.SliceRecord.{SliceRecord}
 use Rattle.run_workers.specs.Planned.{Planned, is_of}
 use Rattle.run_workers.specs.PlanDue.{is_load_of, sliced_steps}
 use Rattle.run_workers.specs.Slices.{IsTold, own, AreTold}
-use Rattle.run_workers.proofs.NoteLists.{Every, every-right, tally, tally-append, with_side-slice}
+use Rattle.run_workers.proofs.NoteLists.{tally, tally-append, with_side-slice}
 use Rattle.run_workers.proofs.JournalLemmas.{of_entry, loaded_by-append, count-cons}
 use Rattle.run_workers.proofs.SliceLemmas.{slice-steps, slice-loads, slice-free}
 

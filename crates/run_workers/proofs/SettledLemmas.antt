@@ -1,12 +1,10 @@
 -- One guest more has taken all that is left for it.
-use Rattle.std.proofs.Common.{◌≡◌, ◌≢◌, ◌⊎◌, ⊎_elim, inl, inr, ℕ, zero, suc, ◌+◌, ◌<◌, List, [], ◌∷◌, ◌++◌, length, remove, Some, None, true, refl, sym, ap, ◌∙◌, subst, arith}
+use Rattle.std.proofs.Common.{◌≡◌, ◌≢◌, ◌⊎◌, ⊎_elim, inl, inr, ℕ, zero, suc, ◌+◌, ◌<◌, List, [], ◌∷◌, ◌++◌, length, remove, Some, refl, sym, ap, ◌∙◌, subst, arith}
 use Rattle.std.specs.Prelude.{slice_get, slice_index_or}
-use Rattle.std.proofs.lemmas.List.{append-nil, append_assoc, length-append}
+use Rattle.std.proofs.lemmas.List.{append_assoc}
 use Rattle.atomic_table.specs.Seated.{TableId}
-use Rattle.base_words.specs.declared.events.End.{End}
 use Rattle.isolation_law.specs.Start.{Boot}
-use Rattle.wire_queue.specs.declared.lists.PassList.{PassList}
-use Rattle.guest_core.specs.GuestView.{Monitored, Shared, IsTableOf}
+use Rattle.guest_core.specs.GuestView.{Monitored, Shared}
 use Rattle.guest_core.specs.Holding.{FitsAround}
 use Rattle.guest_core.specs.PacketCalls.{IsArmed, KeepsEnds, SameSends}
 use Rattle.guest_lock.specs.Guests.{IsGuestOf, GuestsFrom}

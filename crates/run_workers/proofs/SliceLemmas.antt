@@ -1,13 +1,12 @@
 -- What the notes of one slice tell.
-use Rattle.std.proofs.Common.{◌≡◌, ◌≢◌, ℕ, zero, suc, ◌+◌, ◌<◌, ◌≤◌, ◌==◌, ◌&&◌, if◌then◌else◌, cond, Bool, true, false, List, [], ◌∷◌, ◌++◌, refl, sym, ap, ◌∙◌, subst, arith, eq-eqb, Option, Some, None, inl, inr}
+use Rattle.std.proofs.Common.{◌≡◌, ℕ, zero, suc, ◌+◌, ◌≤◌, ◌==◌, ◌&&◌, cond, Bool, true, false, List, [], ◌∷◌, ◌++◌, refl, sym, ap, ◌∙◌, subst, arith, eq-eqb, Option, Some, None, inl, inr}
 use Rattle.base_words.specs.declared.ids.ProcId.{ProcId}
 use Rattle.base_words.specs.declared.ids.VcpuId.{VcpuId}
 use Rattle.base_words.specs.declared.events.Event.{Event}
 use Rattle.base_words.specs.declared.events.Event.TheVariants.{Direct, Emulate, Load, Unload}
-use Rattle.base_words.specs.declared.events.End.{End}
 use Rattle.event_journal.specs.Steps.{is_step_of}
 use Rattle.shootdown.specs.declared.notes.Note.{Note}
-use Rattle.shootdown.specs.declared.notes.Note.TheVariants.{Made, Halted, Ended}
+use Rattle.shootdown.specs.declared.notes.Note.TheVariants.{Made}
 use Rattle.guest_core.specs.Noting.{loaded_by, loaded_by_note, is_step_of as is_note_step_of}
 use Rattle.guest_core.specs.declared.records.SliceRecord.{SliceRecord}
 use Rattle.guest_lock.specs.declared.burst.Stop.{Stop}

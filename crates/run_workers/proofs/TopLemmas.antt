@@ -1,5 +1,5 @@
 -- From a description to the run of its guests.
-use Rattle.std.proofs.Common.{◌≡◌, ◌≢◌, ℕ, zero, suc, ◌+◌, ◌<◌, ◌≤◌, ◌^◌, List, [], ◌∷◌, map, length, All, refl, sym, ap, ◌∙◌, subst, arith, Option, Some, None, get_or, Result, Ok, Err, IfOk}
+use Rattle.std.proofs.Common.{◌≡◌, ℕ, zero, suc, ◌+◌, ◌<◌, List, [], ◌∷◌, map, length, refl, sym, ap, ◌∙◌, subst, arith, Option, Some, None, Result, Ok, Err, IfOk}
 use Rattle.std.specs.Prelude.{slice_get, slice_index_or}
 use Rattle.std.specs.Option.{IsSomeAnd}
 use Rattle.std.specs.declared.alloc.AllocError.{AllocError}
@@ -22,12 +22,12 @@ use Rattle.wire_queue.specs.Closing.{AreInOrder}
 use Rattle.wire_queue.specs.declared.lists.PassList.{PassList}
 use Rattle.guest_core.specs.GuestView.{Monitored, Shared}
 use Rattle.guest_core.specs.declared.records.RunRecord.{RunRecord}
-use Rattle.run_workers.specs.Starting.{IsStart, AreStarts, AreSources}
+use Rattle.run_workers.specs.Starting.{IsStart, AreStarts}
 use Rattle.run_workers.specs.WholeRecord.{IsWhole}
 use Rattle.run_workers.specs.Working.{ItemFits, IsOn}
 use Rattle.run_workers.specs.Booting.{start_of, IsFresh, IsStarted, AreBooted, HasBooted}
 use Rattle.run_workers.specs.Named.{board_of_tokens, MayRun, IsRunOf}
-use Rattle.run_workers.proofs.WholeLemmas.{get-index, all-get, get-there}
+use Rattle.run_workers.proofs.WholeLemmas.{get-index, get-there}
 use Rattle.run_workers.proofs.RunLemmas.{map-get, numbered-length}
 use Rattle.run_workers.proofs.PacketLemmas.{meet-wires}
 

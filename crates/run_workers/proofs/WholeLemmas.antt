@@ -1,10 +1,9 @@
 -- The whole record is due for the plan: from what workers and guests leave, and the agreement of all tokens and seats.
-use Rattle.std.proofs.Common.{◌≡◌, ◌≢◌, ℕ, zero, suc, ◌+◌, ◌<◌, ◌≤◌, ◌==◌, ◌&&◌, if◌then◌else◌, cond, Bool, true, false, List, [], ◌∷◌, ◌++◌, map, length, All, refl, sym, ap, ◌∙◌, subst, arith, ne_eqb, Option, Some, None, inl, inr, ◌⊎◌, count_by}
+use Rattle.std.proofs.Common.{◌≡◌, ℕ, zero, suc, ◌+◌, ◌<◌, ◌≤◌, ◌==◌, ◌&&◌, if◌then◌else◌, cond, Bool, true, false, List, [], ◌∷◌, length, All, refl, sym, ap, ◌∙◌, subst, arith, ne_eqb, Some, None, inl, inr, ◌⊎◌, count_by}
 use Rattle.std.specs.Prelude.{slice_get, slice_index_or}
 use Rattle.atomic_table.specs.Seated.{TableId}
 use Rattle.base_words.specs.declared.events.Event.{Event}
 use Rattle.event_journal.specs.Steps.{is_step_of, steps_in}
-use Rattle.shootdown.specs.declared.notes.Note.{Note}
 use Rattle.shootdown.specs.declared.view.SidedNote.{SidedNote}
 use Rattle.shootdown.specs.Notes.{Token, Seat, with_side, IsInStep, AreInStep}
 use Rattle.isolation_law.specs.GuestState.{GuestState}
@@ -14,7 +13,6 @@ use Rattle.guest_core.specs.declared.records.GuestRecord.{GuestRecord}
 use Rattle.guest_core.specs.declared.records.SliceRecord.{SliceRecord}
 use Rattle.run_workers.specs.Planned.{Planned, is_of}
 use Rattle.run_workers.specs.PlanDue.{is_load_of, loads_in, AreUnloaded, sliced_steps, journal_of, IsDue}
-use Rattle.run_workers.specs.WholeRecord.{AreRecords}
 use Rattle.run_workers.specs.Slices.{own, AreTold}
 use Rattle.run_workers.specs.Dealt.{queue_of, dealt}
 use Rattle.run_workers.specs.Ending.{Leaves, AreLeft}

@@ -1,7 +1,7 @@
 -- What is left on the wires once no guest runs any more.
-use Rattle.std.specs.Prelude.{◌≡◌, ◌≢◌, ℕ, ◌<◌, List, ◌++◌, length, All, None, Some, true, slice_get, slice_index_or}
+use Rattle.std.specs.Prelude.{◌≡◌, ◌≢◌, ℕ, List, length, None, Some, true, slice_get}
 use Rattle.wire_queue.specs.ListSteps.{HasTaken}
-use Rattle.guest_core.specs.GuestView.{Monitored, Shared, AreOf, IsSameGuest}
+use Rattle.guest_core.specs.GuestView.{Monitored, Shared, IsSameGuest}
 use Rattle.guest_core.specs.PacketCalls.{IsArmed, KeepsEnds, SameSends}
 
 -- a guest that waits for a packet has none in hand

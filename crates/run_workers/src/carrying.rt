@@ -1,6 +1,6 @@
 //! The run items of one processor, carried out in their order.
 ghost use Rattle.std.specs.Prelude.{◌≡◌, ◌≤◌, ◌<◌, ◌++◌, ◌^◌, None, [], All, IfOk, OnOk, length};
-ghost use Rattle.guest_lock.specs.Fits.{Fits, HasVcpu};
+ghost use Rattle.guest_lock.specs.Fits.{Fits};
 ghost use Rattle.guest_lock.specs.Guests.{IsThere};
 ghost use Rattle.guest_lock.specs.Told.{shown};
 ghost use Rattle.run_workers.specs.Jobs.{planned_job};

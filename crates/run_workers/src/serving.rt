@@ -2,7 +2,7 @@
 ghost use Rattle.std.specs.Prelude.{◌≡◌, ◌≢◌, ◌≤◌, None, IfOk};
 ghost use Rattle.guest_lock.specs.declared.burst.Stop.TheVariants.{Paused};
 ghost use Rattle.guest_lock.specs.Fits.{Fits, HasVcpu};
-ghost use Rattle.guest_lock.specs.Told.{shown, vcpu_shown, Bursts};
+ghost use Rattle.guest_lock.specs.Told.{shown, Bursts};
 ghost use Rattle.run_workers.specs.Slices.{Serves, IsCause};
 ghost use Rattle.run_workers.specs.Working.{IsSameToken};
 ghost use Rattle.run_workers.specs.Jobs.{planned_job};

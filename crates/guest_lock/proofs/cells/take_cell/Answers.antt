@@ -1,5 +1,5 @@
 use Rattle.std.proofs.Common.{rules, ◌≡◌, ◌+◌, ◌++◌, ◌∷◌, [], List, sym, subst}
-use Rattle.guest_core.specs.GuestView.{Monitored, Shared}
+use Rattle.guest_core.specs.GuestView.{Monitored}
 use Rattle.guest_lock.specs.Guests.{GuestsBelow}
 use Rattle.guest_lock.proofs.GuestLemmas.{below-more}
 use Rattle.guest_lock.proofs.cells.take_cell.Goals as goal

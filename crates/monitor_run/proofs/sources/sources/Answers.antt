@@ -1,8 +1,6 @@
 use Rattle.std.proofs.Common.{◌≡◌, ◌∙◌, ◌≤◌, ℕ, List, Option, ap, map, length, sym, subst}
 use Rattle.std.specs.Prelude.{All}
-use Rattle.std.specs.Global.{Box}
 use Rattle.std.proofs.lemmas.Result.{IfOk-weaker}
-use Rattle.base_words.specs.declared.page.Page.{Page}
 use Rattle.admission.specs.Views.{disk_numbered, disks_seen}
 use Rattle.monitor_run.specs.Sources.{shared_blocks, sources_of}
 use Rattle.monitor_run.proofs.sources.sources.Goals as goal

@@ -1,10 +1,10 @@
-use Rattle.std.proofs.Common.{rules, ◌≡◌, ◌+◌, ◌*◌, ◌<◌, ◌≤◌, ◌^◌, ◌++◌, ℕ, List, [], ◌∷◌, map, length, get_or, Option, None, sym, ap, ◌∙◌, subst, arith, append_assoc, length-append}
+use Rattle.std.proofs.Common.{rules, ◌≡◌, ◌+◌, ◌<◌, ◌≤◌, ◌++◌, ℕ, List, [], ◌∷◌, map, length, get_or, Option, None, sym, ap, ◌∙◌, subst, arith, append_assoc, length-append}
 use Rattle.std.proofs.lemmas.List.{get_or-map, length-map}
 use Rattle.elf_image.specs.declared.image.Image.{Image}
-use Rattle.private_machine.specs.Disk.{Block, as_given}
+use Rattle.private_machine.specs.Disk.{Block}
 use Rattle.admission.specs.Views.{disk_numbered}
 use Rattle.run_workers.specs.declared.source.Source.{Source}
-use Rattle.monitor_run.specs.Sources.{shared_blocks, source_of, sources_of}
+use Rattle.monitor_run.specs.Sources.{shared_blocks, source_of}
 use Rattle.monitor_run.proofs.SourceLemmas.{image-there, sources_of-next}
 use Rattle.monitor_run.proofs.sources.with_disks.Goals as goal
 

@@ -1,4 +1,4 @@
-use Rattle.std.proofs.Common.{rules, ◌≡◌, ◌<◌, ◌≤◌, ◌^◌, ◌∙◌, sym, ap, subst, arith, length}
+use Rattle.std.proofs.Common.{rules, ◌<◌, ◌^◌, ◌∙◌, sym, subst, arith}
 use Rattle.shootdown.specs.Making.{numbered, fresh_token}
 use Rattle.run_workers.specs.Booting.{board_of, AreSeats}
 use Rattle.run_workers.proofs.BootLemmas.{sources-count, seats-board, fresh-seats}

@@ -1,4 +1,4 @@
-use Rattle.std.proofs.Common.{◌≡◌, ◌<◌, ℕ, List, map, length, sym, ap, ◌∙◌, subst, arith}
+use Rattle.std.proofs.Common.{◌<◌, ℕ, List, map, sym, ap, ◌∙◌, subst}
 use Rattle.std.specs.Prelude.{All}
 use Rattle.node_frames.specs.Layout.{layout_of}
 use Rattle.node_frames.specs.Left.{Left, first_left}
@@ -8,7 +8,6 @@ use Rattle.boot_frames.specs.Chain.{after_claims}
 use Rattle.boot_frames.specs.Claims.{cache_claims, page_claims}
 use Rattle.boot_frames.specs.Lots.{ServesAll}
 use Rattle.boot_frames.specs.Needs.{need_of}
-use Rattle.boot_frames.specs.declared.lots.Lot.{Lot}
 use Rattle.boot_frames.specs.declared.needs.Need.{Need}
 use Rattle.run_workers.proofs.booting.lots_of.Goals as goal
 

@@ -1,4 +1,4 @@
-use Rattle.std.proofs.Common.{rules, ◌≡◌, ◌+◌, ◌<◌, ◌++◌, ◌∙◌, sym, ap, subst, arith, take, length}
+use Rattle.std.proofs.Common.{rules, ◌≡◌, ◌+◌, ◌<◌, ◌++◌, ◌∙◌, sym, subst, take, length}
 use Rattle.run_workers.specs.Planned.{planned}
 use Rattle.run_workers.specs.Parts.{as_list}
 use Rattle.run_workers.specs.Slices.{own, AreTold}

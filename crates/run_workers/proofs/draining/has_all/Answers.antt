@@ -1,5 +1,5 @@
 -- One of the others after another is asked.
-use Rattle.std.proofs.Common.{rules, ◌≡◌, ◌<◌, ◌≤◌, ◌+◌, Some, length, true, refl, sym, ap, ◌∙◌, subst, arith}
+use Rattle.std.proofs.Common.{rules, ◌<◌, ◌≤◌, length, true, sym, ap, ◌∙◌, subst, arith}
 use Rattle.guest_core.specs.GuestView.{Monitored, Shared}
 use Rattle.guest_core.specs.PacketCalls.{KeepsEnds}
 use Rattle.wire_queue.specs.ListSteps.{HasTaken}

@@ -1,5 +1,5 @@
 -- All was taken that the first of the others sent.
-use Rattle.std.proofs.Common.{◌≡◌, ◌<◌, ◌≤◌, ℕ, Some, true, length}
+use Rattle.std.proofs.Common.{◌≡◌, ◌<◌, ℕ, Some, true}
 use Rattle.std.specs.Prelude.{slice_get}
 use Rattle.wire_queue.specs.ListSteps.{HasTaken}
 use Rattle.guest_core.specs.GuestView.{Monitored}

@@ -1,5 +1,5 @@
 -- Each round the guest takes what comes, and the others are only asked.
-use Rattle.std.proofs.Common.{◌≡◌, ◌∙◌, Ok, ap, subst}
+use Rattle.std.proofs.Common.{◌∙◌, Ok, ap, subst}
 use Rattle.wire_queue.specs.PassLists.{sending_to}
 use Rattle.guest_core.specs.GuestView.{Shared}
 use Rattle.guest_core.specs.PacketCalls.{TakesPacket}

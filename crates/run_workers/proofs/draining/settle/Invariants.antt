@@ -1,5 +1,4 @@
 -- Packets may have come to the guest, and the others were only asked.
-use Rattle.guest_core.specs.GuestView.{Monitored}
 use Rattle.run_workers.specs.Draining.{Receives, AreKept}
 use Rattle.run_workers.proofs.draining.settle.Given as goal
 

@@ -1,5 +1,5 @@
 -- The next guest is settled, with the guests before it and behind it as others.
-use Rattle.std.proofs.Common.{rules, ◌≡◌, ◌<◌, ◌++◌, ◌∷◌, [], List, length, sym, ap, ◌∙◌, subst, arith}
+use Rattle.std.proofs.Common.{rules, ◌≡◌, ◌<◌, ◌++◌, ◌∷◌, [], List, length, sym, ap, ◌∙◌, subst}
 use Rattle.std.proofs.lemmas.List.{append_assoc, with_items_is}
 use Rattle.guest_core.specs.GuestView.{Monitored, Shared}
 use Rattle.guest_lock.specs.Guests.{GuestsFrom}

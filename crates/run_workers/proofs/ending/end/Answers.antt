@@ -1,4 +1,4 @@
-use Rattle.std.proofs.Common.{rules, ◌≡◌, sym, ap, ◌∙◌, subst}
+use Rattle.std.proofs.Common.{rules, sym, ap, ◌∙◌, subst}
 use Rattle.base_words.specs.declared.events.End.TheVariants.{Budget}
 use Rattle.isolation_law.specs.EndRows.{Ends}
 use Rattle.guest_core.specs.GuestView.{Monitored, IsSameGuest}

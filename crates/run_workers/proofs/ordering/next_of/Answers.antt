@@ -1,9 +1,9 @@
-use Rattle.std.proofs.Common.{rules, ◌≡◌, ◌<◌, ◌∙◌, sym, ap, subst, arith, [], length}
+use Rattle.std.proofs.Common.{rules, ◌≡◌, ◌<◌, ◌∙◌, sym, ap, [], length}
 use Rattle.std.specs.Prelude.{slice_set, slice_index_or}
 use Rattle.std.specs.Vec.Iter.{into_iter_items}
 use Rattle.std.proofs.lemmas.List.{get_or-map}
 use Rattle.run_workers.specs.Dealt.{queue_of, front, behind}
-use Rattle.run_workers.specs.Parts.{slices_in, as_list}
+use Rattle.run_workers.specs.Parts.{slices_in}
 use Rattle.run_workers.proofs.LoopLemmas.{map-set}
 use Rattle.run_workers.proofs.ordering.next_of.Goals as goal
 

@@ -1,5 +1,5 @@
-use Rattle.std.proofs.Common.{rules, ◌≡◌, ◌<◌, ◌++◌, map, Some, sym, subst, refl, ◌∙◌, ap, length, List, All, arith}
-use Rattle.std.specs.Prelude.{slice_index_or, slice_get}
+use Rattle.std.proofs.Common.{rules, ◌≡◌, ◌<◌, map, Some, sym, subst, ◌∙◌, ap, length, List, All}
+use Rattle.std.specs.Prelude.{slice_index_or}
 use Rattle.std.proofs.lemmas.List.{length-map, with_items_is}
 use Rattle.guest_core.specs.GuestView.{Shared}
 use Rattle.wire_queue.specs.Between.{Made}
@@ -9,15 +9,14 @@ use Rattle.machine_desc.specs.declared.plan.Item.{Item}
 use Rattle.guest_core.specs.declared.records.SliceRecord.{SliceRecord}
 use Rattle.guest_lock.specs.Guests.{GuestsFrom}
 use Rattle.run_workers.specs.Planned.{planned}
-use Rattle.run_workers.specs.Working.{ItemFits, IsOn}
-use Rattle.run_workers.specs.Workers.{IsReady, Works}
+use Rattle.run_workers.specs.Working.{IsOn}
+use Rattle.run_workers.specs.Workers.{IsReady}
 use Rattle.run_workers.specs.Parts.{token_of, slices_of, slices_in}
-use Rattle.run_workers.specs.Booting.{start_of, IsFresh}
+use Rattle.run_workers.specs.Booting.{start_of}
 use Rattle.run_workers.specs.Ending.{AllLeft, AllTold}
 use Rattle.run_workers.specs.Named.{board_of_tokens}
-use Rattle.run_workers.specs.declared.workers.Worker.{Worker}
 use Rattle.run_workers.proofs.WholeLemmas.{Leftover, is-due, state-count}
-use Rattle.run_workers.proofs.RunLemmas.{all-passes, starts-numbers, all-guests, ready, Done, done-at, all-places, all-processors, seat-boards, token-boards, all-records}
+use Rattle.run_workers.proofs.RunLemmas.{all-passes, starts-numbers, all-guests, ready, done-at, all-places, all-processors, seat-boards, token-boards, all-records}
 use Rattle.run_workers.specs.PlanDue.{IsDue}
 use Rattle.run_workers.specs.Dealt.{dealt}
 use Rattle.run_workers.proofs.NoteLists.{Every}

@@ -1,4 +1,4 @@
-use Rattle.std.proofs.Common.{◌≡◌, ◌∙◌, sym, subst, arith}
+use Rattle.std.proofs.Common.{◌∙◌, sym, subst, arith}
 use Rattle.guest_lock.specs.Fits.{Fits}
 use Rattle.run_workers.proofs.serving.make_turns.Goals as goal
 

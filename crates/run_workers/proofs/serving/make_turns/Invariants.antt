@@ -1,4 +1,4 @@
-use Rattle.std.proofs.Common.{◌≡◌, ◌≤◌}
+use Rattle.std.proofs.Common.{◌≤◌}
 use Rattle.guest_lock.specs.Told.{Bursts}
 use Rattle.run_workers.proofs.serving.make_turns.Given as goal
 

@@ -1,5 +1,5 @@
-use Rattle.std.proofs.Common.{rules, ◌≡◌, ◌≢◌, ◌∷◌, [], ◌∙◌, sym, ap, subst, arith, Some, None}
-use Rattle.base_words.specs.declared.events.Event.TheVariants.{Load, Unload}
+use Rattle.std.proofs.Common.{rules, ◌≡◌, ◌∷◌, [], ◌∙◌, sym, subst, arith, Some, None}
+use Rattle.base_words.specs.declared.events.Event.TheVariants.{Load}
 use Rattle.shootdown.specs.declared.notes.Note.TheVariants.{Made, Ended}
 use Rattle.shootdown.specs.Notes.{Token}
 use Rattle.guest_core.specs.GuestCalls.{processor_of}

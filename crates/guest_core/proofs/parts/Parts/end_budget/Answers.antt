@@ -8,10 +8,10 @@ use Rattle.isolation_law.specs.GuestState.{GuestState}
 use Rattle.guest_course.specs.CourseView.{state_of}
 use Rattle.guest_core.specs.Kept.{Kept}
 use Rattle.guest_core.proofs.CountLemmas.{count-same}
-use Rattle.guest_core.proofs.KeptProofs.{Laws, kept-none, end-leaves}
+use Rattle.guest_core.proofs.KeptProofs.{kept-none, end-leaves}
 use Rattle.guest_core.proofs.RoomLemmas.{two-entries}
 use Rattle.guest_core.specs.Wiring.{Posted}
-use Rattle.guest_core.proofs.WiringProofs.{TakeLaws, posted-same, quiet-one, quiet-end}
+use Rattle.guest_core.proofs.WiringProofs.{posted-same, quiet-one, quiet-end}
 use Rattle.guest_core.proofs.parts.Parts.end_budget.Goals as goal
 
 pub returns-clause-kept : goal.returns-clause-kept
@@ -20,9 +20,9 @@ returns-clause-kept c =
     let s = state_of old.course in
     let t = state_of c.close.new.course in
     let k = c.requires.kept in
-    let w : Laws = record { halts = c.halts_stay.ensures.row; count = c.halts_stay.ensures.count; processors = c.halts_stay.ensures.processors; loaded = c.halts_stay.ensures.loaded; grows = c.run_grows.ensures.row; around = c.row_keeps.ensures.around } in
+    let w = c.laws.ensures.rows in
     let row = c.close.ensures.ends in
-    let v' : TakeLaws = record { same = c.takes.ensures.same; tells_same = c.takes.ensures.tells_same; comes = c.takes.ensures.comes; received = c.takes.ensures.received; tells = c.takes.ensures.tells } in
+    let v' = c.laws.ensures.takes in
     let leaves = end-leaves s t Budget c.requires.not_ended c.close.ensures.ends refl k.kept.nothing_due in
     let kept = kept-none w old.start s t old.journal.entries old.seat.notes (Ending Budget) k.kept leaves refl (λ r. refl) in
     let same = count-same s.processors t.processors (w.processors s t (Ending Budget) leaves.row) (λ r. w.loaded s t (Ending Budget) r leaves.row) in

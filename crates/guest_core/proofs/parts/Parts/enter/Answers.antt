@@ -11,11 +11,11 @@ use Rattle.guest_course.specs.StepCalls.{StepsDirect}
 use Rattle.guest_core.specs.GuestCalls.{processor_of}
 use Rattle.guest_core.specs.Wiring.{Posted}
 use Rattle.guest_core.proofs.HoldingLemmas.{frames-stay}
-use Rattle.guest_core.proofs.KeptProofs.{Laws, as-many}
+use Rattle.guest_core.proofs.KeptProofs.{as-many}
 use Rattle.guest_core.proofs.EnterProofs.{kept-direct, of-these, one-row}
 use Rattle.guest_core.proofs.RoomLemmas.{two-entries}
 use Rattle.guest_core.proofs.UsingProofs.{uses-row}
-use Rattle.guest_core.proofs.WiringProofs.{TakeLaws, posted-same, quiet-one}
+use Rattle.guest_core.proofs.WiringProofs.{posted-same, quiet-one}
 use Rattle.guest_core.proofs.parts.Parts.enter.Goals as goal
 
 pub returns-in-Direct-clause-kept : goal.returns-in-Direct-clause-kept
@@ -28,7 +28,7 @@ returns-in-Direct-clause-kept g c =
     let q : ProcId = processor_of token in
     let v = c.args.vcpu in
     let same : c.number-processor.result ≡ q = ap (λ (n : ℕ). record { 0 = n }) c.number-processor.ensures in
-    let w : Laws = record { halts = c.halts_stay.ensures.row; count = c.halts_stay.ensures.count; processors = c.halts_stay.ensures.processors; loaded = c.halts_stay.ensures.loaded; grows = c.run_grows.ensures.row; around = c.row_keeps.ensures.around } in
+    let w = c.laws.ensures.rows in
     let there : q.0 < length s.processors = subst (λ (n : ℕ). q.0 < n) (sym k.kept.processors) c.requires.token.is_processor in
     let did : StepsDirect s q.0 v.0 m c.in-Direct.access = subst (λ (n : ℕ). StepsDirect s n v.0 m c.in-Direct.access) c.number-processor.ensures c.in-Direct.ensures.executes in
     let on : GoesOn m = c.step.ensures.goes_on in
@@ -37,7 +37,7 @@ returns-in-Direct-clause-kept g c =
     let room = two-entries _ _ _ c.requires.room in
     let around = w.around s m (Direct q v) did.row in
     let journal = c.push_direct.ensures.entries ∙ ap (λ (p : ProcId). old.journal.entries ++ Direct p v ∷ []) same in
-    let x : TakeLaws = record { same = c.takes.ensures.same; tells_same = c.takes.ensures.tells_same; comes = c.takes.ensures.comes; received = c.takes.ensures.received; tells = c.takes.ensures.tells } in
+    let x = c.laws.ensures.takes in
     let packets = c.step.ensures.packets in
     record {
       sound = c.step.ensures.sound;

@@ -10,7 +10,7 @@ use Rattle.guest_core.specs.GuestView.{loaded_count}
 use Rattle.guest_core.specs.Wiring.{IsWired}
 use Rattle.guest_core.proofs.HandProofs.{kept-comes, goes-comes, frames-come, wired-again}
 use Rattle.guest_core.proofs.UsingProofs.{uses-come}
-use Rattle.guest_core.proofs.WiringProofs.{TakeLaws, posted-comes}
+use Rattle.guest_core.proofs.WiringProofs.{posted-comes}
 use Rattle.guest_core.proofs.parts.Parts.fetch.Goals as goal
 
 pub returns-in-Some-clause-kept : goal.returns-in-Some-clause-kept
@@ -19,7 +19,7 @@ returns-in-Some-clause-kept g c =
     let k = c.requires.kept in
     let s = state_of old.course in
     let t = state_of c.take_in_hand.new.self in
-    let w : TakeLaws = record { same = c.takes.ensures.same; tells_same = c.takes.ensures.tells_same; comes = c.takes.ensures.comes; received = c.takes.ensures.received; tells = c.takes.ensures.tells } in
+    let w = c.laws.ensures.takes in
     let comes = c.take_in_hand.ensures.comes in
     let held : t.hand ≡ Some (hand_of c.in-Some.packet) = ap (λ (x : Course). option_map hand_of x.hand) c.take_in_hand.ensures.same in
     let wires = old.wiring.wires.value in

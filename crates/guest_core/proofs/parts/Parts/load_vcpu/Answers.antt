@@ -10,10 +10,10 @@ use Rattle.guest_course.specs.CourseView.{state_of}
 use Rattle.guest_core.specs.Kept.{Kept}
 use Rattle.guest_core.proofs.CountLemmas.{swapped}
 use Rattle.guest_core.proofs.HoldingLemmas.{frames-stay}
-use Rattle.guest_core.proofs.KeptProofs.{Laws, kept-one, kept-answer, load-leaves, one-more}
+use Rattle.guest_core.proofs.KeptProofs.{kept-one, kept-answer, load-leaves, one-more}
 use Rattle.guest_core.proofs.RoomLemmas.{two-entries}
 use Rattle.guest_core.specs.Wiring.{Posted}
-use Rattle.guest_core.proofs.WiringProofs.{TakeLaws, posted-same, quiet-one, quiet-load}
+use Rattle.guest_core.proofs.WiringProofs.{posted-same, quiet-one, quiet-load}
 use Rattle.guest_core.proofs.parts.Parts.load_vcpu.Goals as goal
 
 pub returns-in-Some-clause-kept : goal.returns-in-Some-clause-kept
@@ -51,9 +51,9 @@ returns-clause-kept c =
     let p = c.number-processor.result in
     let v = c.args.vcpu in
     let n : SidedNote = sided p.0 (Made (Load p v)) in
-    let w : Laws = record { halts = c.halts_stay.ensures.row; count = c.halts_stay.ensures.count; processors = c.halts_stay.ensures.processors; loaded = c.halts_stay.ensures.loaded; grows = c.run_grows.ensures.row; around = c.row_keeps.ensures.around } in
+    let w = c.laws.ensures.rows in
     let row = c.load.ensures.loads in
-    let v' : TakeLaws = record { same = c.takes.ensures.same; tells_same = c.takes.ensures.tells_same; comes = c.takes.ensures.comes; received = c.takes.ensures.received; tells = c.takes.ensures.tells } in
+    let v' = c.laws.ensures.takes in
     let kept = kept-one w old.start s t old.journal.entries old.seat.notes (Load p v) n k.kept (load-leaves s t p v row refl k.kept.nothing_due) row.is_processor refl tt (record { steps = λ u e. absurd (never e) }) (λ r. swapped r p.0 (Some v.0) (processor s r).loaded) in
     let more = one-more w s t p v row in
     let room = two-entries _ _ _ c.requires.room in

@@ -8,10 +8,10 @@ use Rattle.guest_course.specs.CourseView.{state_of}
 use Rattle.guest_core.specs.Kept.{Kept}
 use Rattle.guest_core.specs.Wiring.{Posted}
 use Rattle.guest_core.proofs.HoldingLemmas.{frames-stay}
-use Rattle.guest_core.proofs.KeptProofs.{Laws, kept-none, receive-leaves, as-many}
+use Rattle.guest_core.proofs.KeptProofs.{kept-none, receive-leaves, as-many}
 use Rattle.guest_core.proofs.RoomLemmas.{two-entries}
 use Rattle.guest_core.proofs.UsingProofs.{uses-row}
-use Rattle.guest_core.proofs.WiringProofs.{TakeLaws, posted-received}
+use Rattle.guest_core.proofs.WiringProofs.{posted-received}
 use Rattle.guest_core.proofs.parts.Parts.take_in.Goals as goal
 
 pub returns-clause-kept : goal.returns-clause-kept
@@ -22,8 +22,8 @@ returns-clause-kept c =
     let t = state_of c.receive.new.self in
     let place = length old.course.received.items in
     let row = c.in_ok-receive.ensures.receives in
-    let w : Laws = record { halts = c.halts_stay.ensures.row; count = c.halts_stay.ensures.count; processors = c.halts_stay.ensures.processors; loaded = c.halts_stay.ensures.loaded; grows = c.run_grows.ensures.row; around = c.row_keeps.ensures.around } in
-    let v : TakeLaws = record { same = c.takes.ensures.same; tells_same = c.takes.ensures.tells_same; comes = c.takes.ensures.comes; received = c.takes.ensures.received; tells = c.takes.ensures.tells } in
+    let w = c.laws.ensures.rows in
+    let v = c.laws.ensures.takes in
     let kept = kept-none w old.start s t old.journal.entries old.seat.notes (PacketIn place) k.kept (receive-leaves s t place row k.kept.nothing_due) refl (λ r. refl) in
     let long : vec_len old.course.received ≡ place = search rules in
     let entries = c.push.ensures.entries ∙ ap (λ n. old.journal.entries ++ PacketIn n ∷ []) (c.len-place.ensures ∙ long) in

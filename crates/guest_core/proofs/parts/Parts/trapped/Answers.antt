@@ -22,13 +22,13 @@ use Rattle.guest_core.specs.declared.serving.Served.{Served}
 use Rattle.guest_core.specs.declared.serving.Served.TheVariants as serves
 use Rattle.guest_core.specs.Wiring.{IsWired, Posted}
 use Rattle.guest_core.proofs.HoldingLemmas.{frames-stay}
-use Rattle.guest_core.proofs.KeptProofs.{Laws, as-many}
+use Rattle.guest_core.proofs.KeptProofs.{as-many}
 use Rattle.guest_core.proofs.EnterProofs.{kept-refill, kept-emulate, of-these, goes-on, same-loads, one-row, emulate-turn}
 use Rattle.guest_core.proofs.KeptProofs.{emulate-end}
 use Rattle.guest_core.proofs.RoomLemmas.{two-entries, less-room, less-calls}
 use Rattle.guest_core.proofs.HandProofs.{wired-again}
 use Rattle.guest_core.proofs.UsingProofs.{uses-row}
-use Rattle.guest_core.proofs.WiringProofs.{SendLaws, TakeLaws, posted-out, quiet-one, quiet-step, posts-concluded, sent-guest, same-ends, fits-out, there-out}
+use Rattle.guest_core.proofs.WiringProofs.{posted-out, quiet-one, quiet-step, posts-concluded, sent-guest, same-ends, fits-out, there-out}
 use Rattle.guest_core.proofs.parts.Parts.trapped.Goals as goal
 
 -- which row the entry is, on the token's processor
@@ -48,14 +48,14 @@ returns-in-Refill-clause-kept g c =
     let q : ProcId = processor_of token in
     let v = c.args.vcpu in
     let same : c.number-processor.result ≡ q = ap (λ (n : ℕ). record { 0 = n }) c.number-processor.ensures in
-    let w : Laws = record { halts = c.halts_stay.ensures.row; count = c.halts_stay.ensures.count; processors = c.halts_stay.ensures.processors; loaded = c.halts_stay.ensures.loaded; grows = c.run_grows.ensures.row; around = c.row_keeps.ensures.around } in
+    let w = c.laws.ensures.rows in
     let there : q.0 < length s.processors = subst (λ (n : ℕ). q.0 < n) (sym k.kept.processors) c.requires.token.is_processor in
     let did : Refills s q.0 m = refilled v.0 c.number-processor.ensures c.in-Refill.is c.in_ok-serve.ensures.serves in
     let kept = kept-refill w old.start s m old.journal.entries old.seat.notes q k.kept did refl in
     let loads = as-many w s m (Refill q) did (λ r. refl) in
     let room = two-entries _ _ _ c.requires.room in
-    let v' : TakeLaws = record { same = c.takes.ensures.same; tells_same = c.takes.ensures.tells_same; comes = c.takes.ensures.comes; received = c.takes.ensures.received; tells = c.takes.ensures.tells } in
-    let u' : SendLaws = record { accepted = c.sends.ensures.accepted; full = c.sends.ensures.full } in
+    let v' = c.laws.ensures.takes in
+    let u' = c.laws.ensures.sends in
     let here : IsWired old.wiring.wires.value old.wiring.passes s.around = subst (λ (x : Surroundings). IsWired old.wiring.wires.value old.wiring.passes x) (sym k.kept.around) k.wired in
     record {
       sound = c.serve.ensures.sound;
@@ -96,7 +96,7 @@ conclude-requires-clause-fits g c =
     let q : ProcId = processor_of token in
     let v = c.args.vcpu in
     let did : Emulates s q.0 v.0 m = emulated c.number-processor.ensures c.in-Emulate.is c.in_ok-serve.ensures.serves in
-    let around = c.row_keeps.ensures.around s m (Emulate q v) (inl did) ∙ c.requires.kept.kept.around in
+    let around = c.laws.ensures.rows.around s m (Emulate q v) (inl did) ∙ c.requires.kept.kept.around in
     subst (λ (x : Surroundings). FitsAround c.args.resources.now.table.now x) (sym around) c.requires.table.fits
 
 pub conclude-requires-clause-frames : goal.conclude-requires-clause-frames
@@ -108,7 +108,7 @@ conclude-requires-clause-frames g c =
     let q : ProcId = processor_of token in
     let v = c.args.vcpu in
     let did : Emulates s q.0 v.0 m = emulated c.number-processor.ensures c.in-Emulate.is c.in_ok-serve.ensures.serves in
-    frames-stay s m old.holder.view (c.exchanges.ensures.emulates s m q.0 v.0 did) (c.row_keeps.ensures.around s m (Emulate q v) (inl did)) (emulate-end s m q.0 v.0 did ∙ sym did.traps.goes_on.not_ended) c.requires.kept.frames
+    frames-stay s m old.holder.view (c.exchanges.ensures.emulates s m q.0 v.0 did) (c.laws.ensures.rows.around s m (Emulate q v) (inl did)) (emulate-end s m q.0 v.0 did ∙ sym did.traps.goes_on.not_ended) c.requires.kept.frames
 
 pub conclude-requires-clause-used : goal.conclude-requires-clause-used
 conclude-requires-clause-used g c =
@@ -118,7 +118,7 @@ conclude-requires-clause-used g c =
     let m = state_of c.serve.new.course in
     let q : ProcId = processor_of token in
     let v = c.args.vcpu in
-    let w : Laws = record { halts = c.halts_stay.ensures.row; count = c.halts_stay.ensures.count; processors = c.halts_stay.ensures.processors; loaded = c.halts_stay.ensures.loaded; grows = c.run_grows.ensures.row; around = c.row_keeps.ensures.around } in
+    let w = c.laws.ensures.rows in
     let did : Emulates s q.0 v.0 m = emulated c.number-processor.ensures c.in-Emulate.is c.in_ok-serve.ensures.serves in
     uses-row w s m (Emulate q v) old.uses (inl did) (c.exchanges.ensures.emulates s m q.0 v.0 did) (λ r. refl) c.requires.kept.used
 
@@ -132,7 +132,7 @@ returns-in-Emulate-clause-kept g c =
     let q : ProcId = processor_of token in
     let v = c.args.vcpu in
     let same : c.number-processor.result ≡ q = ap (λ (n : ℕ). record { 0 = n }) c.number-processor.ensures in
-    let w : Laws = record { halts = c.halts_stay.ensures.row; count = c.halts_stay.ensures.count; processors = c.halts_stay.ensures.processors; loaded = c.halts_stay.ensures.loaded; grows = c.run_grows.ensures.row; around = c.row_keeps.ensures.around } in
+    let w = c.laws.ensures.rows in
     let there : q.0 < length s.processors = subst (λ (n : ℕ). q.0 < n) (sym k.kept.processors) c.requires.token.is_processor in
     let t = state_of c.conclude.new.course in
     let halted = all_halted m.vcpus in
@@ -142,8 +142,8 @@ returns-in-Emulate-clause-kept g c =
     let loads = as-many w s m (Emulate q v) (inl did) (λ r. refl) in
     let loads' = same-loads halted w m t ends in
     let room = two-entries _ _ _ c.requires.room in
-    let v' : TakeLaws = record { same = c.takes.ensures.same; tells_same = c.takes.ensures.tells_same; comes = c.takes.ensures.comes; received = c.takes.ensures.received; tells = c.takes.ensures.tells } in
-    let u' : SendLaws = record { accepted = c.sends.ensures.accepted; full = c.sends.ensures.full } in
+    let v' = c.laws.ensures.takes in
+    let u' = c.laws.ensures.sends in
     let here : IsWired old.wiring.wires.value old.wiring.passes s.around = subst (λ (x : Surroundings). IsWired old.wiring.wires.value old.wiring.passes x) (sym k.kept.around) k.wired in
     record {
       sound = c.conclude.ensures.sound;
@@ -196,7 +196,7 @@ returns-in-Emulate-clause-room g c =
     let q : ProcId = processor_of token in
     let v = c.args.vcpu in
     let same : c.number-processor.result ≡ q = ap (λ (n : ℕ). record { 0 = n }) c.number-processor.ensures in
-    let w : Laws = record { halts = c.halts_stay.ensures.row; count = c.halts_stay.ensures.count; processors = c.halts_stay.ensures.processors; loaded = c.halts_stay.ensures.loaded; grows = c.run_grows.ensures.row; around = c.row_keeps.ensures.around } in
+    let w = c.laws.ensures.rows in
     let there : q.0 < length s.processors = subst (λ (n : ℕ). q.0 < n) (sym k.kept.processors) c.requires.token.is_processor in
     let t = state_of c.conclude.new.course in
     let halted = all_halted m.vcpus in

@@ -10,15 +10,15 @@ use Rattle.guest_course.specs.CourseView.{state_of}
 use Rattle.guest_core.specs.Kept.{Kept}
 use Rattle.guest_core.proofs.CountLemmas.{swapped}
 use Rattle.guest_core.proofs.HoldingLemmas.{frames-stay}
-use Rattle.guest_core.proofs.KeptProofs.{Laws, kept-one, unload-leaves, one-fewer}
+use Rattle.guest_core.proofs.KeptProofs.{kept-one, unload-leaves, one-fewer}
 use Rattle.guest_core.proofs.RoomLemmas.{same-room}
 use Rattle.guest_core.specs.Wiring.{Posted}
-use Rattle.guest_core.proofs.WiringProofs.{TakeLaws, posted-same, quiet-one, quiet-unload}
+use Rattle.guest_core.proofs.WiringProofs.{posted-same, quiet-one, quiet-unload}
 use Rattle.guest_core.proofs.parts.Parts.unload.Goals as goal
 
 pub push-requires : goal.push-requires
 push-requires c =
-    let w : Laws = record { halts = c.halts_stay.ensures.row; count = c.halts_stay.ensures.count; processors = c.halts_stay.ensures.processors; loaded = c.halts_stay.ensures.loaded; grows = c.run_grows.ensures.row; around = c.row_keeps.ensures.around } in
+    let w = c.laws.ensures.rows in
     let k = c.requires.kept in
     let less = one-fewer w (state_of c.args.self.now.course) (state_of c.unload.new.self) c.number-processor.result c.unload.ensures.unloads (subst (λ (n : ℕ). c.number-processor.result.0 < n) (sym k.kept.processors) (rw c.number-processor.ensures c.requires.token.is_processor)) in
     let room = k.unloads in
@@ -32,9 +32,9 @@ returns-clause-kept c =
     let k = c.requires.kept in
     let p = c.number-processor.result in
     let n : SidedNote = sided p.0 (Made (Unload p)) in
-    let w : Laws = record { halts = c.halts_stay.ensures.row; count = c.halts_stay.ensures.count; processors = c.halts_stay.ensures.processors; loaded = c.halts_stay.ensures.loaded; grows = c.run_grows.ensures.row; around = c.row_keeps.ensures.around } in
+    let w = c.laws.ensures.rows in
     let row = c.unload.ensures.unloads in
-    let v' : TakeLaws = record { same = c.takes.ensures.same; tells_same = c.takes.ensures.tells_same; comes = c.takes.ensures.comes; received = c.takes.ensures.received; tells = c.takes.ensures.tells } in
+    let v' = c.laws.ensures.takes in
     let leaves = unload-leaves s t p c.unload.ensures.unloads refl k.kept.nothing_due in
     let there : p.0 < length s.processors = subst (λ (n : ℕ). p.0 < n) (sym k.kept.processors) (rw c.number-processor.ensures c.requires.token.is_processor) in
     let kept = kept-one w old.start s t old.journal.entries old.seat.notes (Unload p) n k.kept leaves there refl tt (record { steps = λ v e. absurd (never e) }) (λ r. swapped r p.0 None (processor s r).loaded) in
@@ -61,7 +61,7 @@ returns-clause-kept c =
 
 pub returns-clause-room : goal.returns-clause-room
 returns-clause-room c =
-    let w : Laws = record { halts = c.halts_stay.ensures.row; count = c.halts_stay.ensures.count; processors = c.halts_stay.ensures.processors; loaded = c.halts_stay.ensures.loaded; grows = c.run_grows.ensures.row; around = c.row_keeps.ensures.around } in
+    let w = c.laws.ensures.rows in
     let k = c.requires.kept in
     let less = one-fewer w (state_of c.args.self.now.course) (state_of c.unload.new.self) c.number-processor.result c.unload.ensures.unloads (subst (λ (n : ℕ). c.number-processor.result.0 < n) (sym k.kept.processors) (rw c.number-processor.ensures c.requires.token.is_processor)) in
     let c' = c.unload.ensures in

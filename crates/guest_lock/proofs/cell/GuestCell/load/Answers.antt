@@ -1,4 +1,4 @@
-use Rattle.std.proofs.Common.{◌≡◌, ◌∙◌, sym, ap, subst, None, arith}
+use Rattle.std.proofs.Common.{◌≡◌, sym, subst, None, arith}
 use Rattle.shootdown.specs.Notes.{Token}
 use Rattle.guest_lock.specs.Fits.{Fits}
 use Rattle.guest_lock.specs.Told.{shown}

@@ -1,5 +1,5 @@
 use Rattle.std.proofs.Common.{◌≡◌, ◌≤◌}
-use Rattle.guest_lock.specs.Told.{Bursts}
+use Rattle.guest_lock.specs.Told.{AreInStep, Bursts}
 use Rattle.guest_lock.proofs.kept.Kept.burst.Given as goal
 
 abbrev pub invariant-loop-turn : goal.invariant-loop-turn
@@ -8,3 +8,4 @@ invariant-loop-turn g l =
     × (l.burst.turns ≡ l.turn)
     × (l.burst.steps ≤ l.turn)
     × (l.burst.steps ≤ l.steps)
+    × AreInStep l.token l.self.guest

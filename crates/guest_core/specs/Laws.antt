@@ -1,0 +1,33 @@
+-- Laws of a guest's entries and of its packets, gathered.
+use Rattle.std.specs.Prelude.{◌≡◌, ℕ, ◌≤◌, List, [], ◌∷◌, ◌++◌, true, All, Some, length, flat_map}
+use Rattle.base_words.specs.declared.events.Event.{Event}
+use Rattle.base_words.specs.declared.events.Event.TheVariants.{PacketIn}
+use Rattle.private_machine.specs.Operation.{Packet}
+use Rattle.isolation_law.specs.GuestState.{GuestState, processor, vcpu_of}
+use Rattle.isolation_law.specs.LoadsIn.{loaded_after}
+use Rattle.isolation_law.specs.MachineEvent.{Row}
+use Rattle.isolation_law.specs.PacketRows.{ComesToHand, Receives}
+use Rattle.isolation_law.specs.Run.{Run}
+use Rattle.isolation_law.specs.WireHistory.{AreAccepted, taken_by, taken, Tells, TakesNothing}
+
+-- an entry keeps these of a guest, and a run with an entry is a run
+pub record RowLaws : Type 0 where
+  pub halts : (s t : GuestState) (e : Event) (v : ℕ) → Row s e t → (vcpu_of s v).halted ≡ true → (vcpu_of t v).halted ≡ true
+  pub count : (s t : GuestState) (e : Event) → Row s e t → length t.vcpus ≡ length s.vcpus
+  pub processors : (s t : GuestState) (e : Event) → Row s e t → length t.processors ≡ length s.processors
+  pub loaded : (s t : GuestState) (e : Event) (r : ℕ) → Row s e t → (processor t r).loaded ≡ loaded_after e r (processor s r).loaded
+  pub grows : (s m t : GuestState) (journal : List Event) (e : Event) → Run s journal m → Row m e t → Run s (journal ++ e ∷ []) t
+  pub around : (s t : GuestState) (e : Event) → Row s e t → t.around ≡ s.around
+
+-- a packet that is sent is accepted, or the wire is full
+pub record SendLaws : Type 0 where
+  pub accepted : (sent accepted : List Packet) (p : Packet) → AreAccepted 0 sent accepted → AreAccepted 0 (sent ++ p ∷ []) (accepted ++ p ∷ [])
+  pub full : (sent accepted : List Packet) (p : Packet) → 64 ≤ length accepted → AreAccepted 0 sent accepted → AreAccepted 0 (sent ++ p ∷ []) accepted
+
+-- what was taken stays, with entries that tell of no packet and where the packet in hand is received; and one that comes to hand is the last one taken
+pub record TakeLaws : Type 0 where
+  pub same : (s t : GuestState) (journal more : List Event) → TakesNothing s t → flat_map (taken_by s.received s.discarded) more ≡ [] → taken (journal ++ more) t ≡ taken journal s
+  pub tells_same : (s t : GuestState) (journal : List Event) → TakesNothing s t → All (Tells s) journal → All (Tells t) journal
+  pub comes : (s t : GuestState) (journal : List Event) (packet : Packet) → ComesToHand s t → t.hand ≡ Some packet → taken journal t ≡ taken journal s ++ packet ∷ []
+  pub received : (s t : GuestState) (journal : List Event) (k : ℕ) → All (Tells s) journal → Receives s k t → taken (journal ++ PacketIn k ∷ []) t ≡ taken journal s
+  pub tells : (s t : GuestState) (journal : List Event) (k : ℕ) → All (Tells s) journal → Receives s k t → All (Tells t) (journal ++ PacketIn k ∷ [])

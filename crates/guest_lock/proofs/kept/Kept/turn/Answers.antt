@@ -1,0 +1,16 @@
+-- The guest and the token are told the same.
+use Rattle.std.proofs.Common.{rules, ◌≡◌, ap, sym, ◌∙◌}
+use Rattle.shootdown.specs.Notes.{with_side}
+use Rattle.guest_core.specs.GuestCalls.{processor_of, loaded_on, told_of_turn}
+use Rattle.guest_lock.specs.Told.{AreInStep}
+use Rattle.guest_lock.proofs.Notes.{in_step-learns}
+use Rattle.guest_lock.proofs.kept.Kept.turn.Goals as goal
+
+pub returns-clause-in_step : goal.returns-clause-in_step
+returns-clause-in_step g c =
+    let was = c.receive.new.self.guest in
+    let notes : was.notes ≡ c.args.self.now.guest.notes = search rules in
+    let number : was.number ≡ c.args.self.now.guest.number = search rules in
+    let token = c.args.token.now in
+    let before : AreInStep token was = ap (λ n. with_side n token.notes) number ∙ c.requires.in_step ∙ ap (with_side token.number) (sym notes) in
+    in_step-learns was token (told_of_turn (processor_of token) (loaded_on was token) c.turn.result) c.turn.new.self c.turn.new.token c.turn.ensures.learns c.turn.ensures.same.number before
