@@ -1,5 +1,6 @@
 //! A guest under the monitor, whose journal is a run from its start.
 ghost use Rattle.std.specs.Prelude.{◌≡◌, ◌≢◌, ℕ, ◌≤◌, ◌<◌, ◌+◌, [], ◌∷◌, length, None, Some, All, IfOk, OnOk};
+ghost use Rattle.std.specs.Bool.{OnTrue, OnFalse};
 ghost use Rattle.shootdown.specs.declared.view.SidedNote.{SidedNote};
 ghost use Rattle.base_words.specs.declared.events.Event.TheVariants.{Unload, End as Ending};
 ghost use Rattle.base_words.specs.declared.events.End.TheVariants.{Budget};
@@ -13,7 +14,7 @@ ghost use Rattle.guest_core.specs.Holding.{HasFrames, HoldsFor};
 ghost use Rattle.guest_core.specs.GuestView.{IsAtStart, IsSameGuest, IsTableOf};
 ghost use Rattle.guest_core.specs.Noting.{IsNoted, shows_loaded};
 ghost use Rattle.guest_core.specs.GuestCalls.{Makes, Stays, Learns, LoadsVcpu, told_of_load, MayNote, processor_of, loaded_on, Turns, told_of_turn};
-ghost use Rattle.guest_core.specs.PacketCalls.{KeepsEnds, SameSends, TakesPacket};
+ghost use Rattle.guest_core.specs.PacketCalls.{IsArmed, KeepsEnds, SameSends, TakesPacket};
 ghost use Rattle.guest_core.specs.Records.{IsRecord};
 ghost use Rattle.guest_core.specs.Wiring.{IsWired, Posted};
 ghost use Rattle.guest_course.specs.CourseView.{surroundings};
@@ -187,6 +188,15 @@ impl Guest {
         ensures room { self.old.room ≤ self.new.room + 2 }
     {
         self.parts.turn(rt, alloc, token, resources)
+    }
+
+    /// Whether the guest hasn't ended and a page is armed, so that a packet may come in.
+    #[inline]
+    pub fn is_armed(&self) -> bool
+        ensures yes { OnTrue result (IsArmed self.now) }
+        ensures no { OnFalse result (IsArmed self.now → ⊥) }
+    {
+        self.parts.is_armed()
     }
 
     /// Takes the next packet in hand where the guest hasn't ended, a page is armed, and none is in hand, and copies the one in hand into

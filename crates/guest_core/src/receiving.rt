@@ -17,7 +17,7 @@ use std::sync::Wait;
 impl Parts {
     /// Whether the guest hasn't ended and a page is armed.
     #[inline]
-    fn is_armed(&self) -> bool
+    pub(crate) fn is_armed(&self) -> bool
         ensures yes { OnTrue result (IsArmed (guest_of self.now)) }
         ensures no { OnFalse result (IsArmed (guest_of self.now) → ⊥) }
     {

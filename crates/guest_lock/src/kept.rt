@@ -12,7 +12,7 @@ ghost use Rattle.guest_lock.specs.Told.{with_told, shown, vcpu_shown, told_of_lo
 use crate::Starts;
 use crate::burst::{BURST_TURNS, Burst, Stop};
 use base_words::VcpuId;
-use guest_core::{Guest, Loaded, Packeted, Resources, Turn};
+use guest_core::{Guest, Loaded, Resources, Turn};
 use outside_io::{Gate, GatePoint};
 use shootdown::ProcToken;
 use std::alloc::{AllocError, Global};
@@ -55,8 +55,9 @@ impl<N: Starts, const G: u8> Kept<N, G> {
         self.guest.unload(token);
     }
 
-    /// A packet may come to the guest. There is room for a turn then.
-    #[inline]
+    /// A packet may come into the page that is armed. There is room for a turn then.
+    #[cold]
+    #[inline(never)]
     fn receive<R: Wait>(
         &mut self,
         rt: &R,
@@ -68,10 +69,8 @@ impl<N: Starts, const G: u8> Kept<N, G> {
         ensures room { OnOk result (2 ≤ self.new.guest.room) }
         ensures notes { self.new.guest.notes ≡ self.old.guest.notes }
     {
-        match self.guest.packet_in(rt, alloc, resources)? {
-            Packeted::NotArmed => Ok(()),
-            Packeted::Delivered | Packeted::NoneInHand => self.guest.make_room(),
-        }
+        self.guest.packet_in(rt, alloc, resources)?;
+        self.guest.make_room()
     }
 
     /// Tells that what the token noted of the guest is what the guest's seat noted of the token's processor.
@@ -105,7 +104,9 @@ impl<N: Starts, const G: u8> Kept<N, G> {
     {
         gate.pass(at);
         self.guest.make_room()?;
-        self.receive(rt, alloc, resources)?;
+        if self.guest.is_armed() {
+            self.receive(rt, alloc, resources)?;
+        }
         self.guest.tells_loaded();
         self.guest.turn(rt, alloc, token, resources)
     }
