@@ -6,6 +6,7 @@ pub mod Exception
 pub mod Fields
 pub mod Halves
 pub mod Instruction
+pub mod Limits
 pub mod Membership
 pub mod Memory
 pub mod Merging

@@ -44,7 +44,7 @@ pub use page::{Blocks, PAGE_SIZE, Page, PageList};
 pub use place::Place;
 pub use regs::Regs;
 pub use sequence::{Bytes, CellList, GuestList, LendList, NodeList, Sequence};
-pub use sets::{CellSet, IdSet, ProcSet};
+pub use sets::{CellSet, IdSet, MOST_CELLS, MOST_PROCESSORS, ProcSet};
 pub use tlb::{Entry, TlbAnswer};
 pub use trap::{Access, DataAccess, HwStep, TrapCause};
 pub use words::{read_word, write_word};

@@ -21,11 +21,17 @@ impl<I, const N: usize> Model for IdSet<I, N> {
     ghost inverse = { λ members. record { members = members; of = record {} } };
 }
 
+/// How many processors a machine has at most.
+pub const MOST_PROCESSORS: usize = 32;
+
+/// How many cells a machine has at most.
+pub const MOST_CELLS: usize = 8;
+
 /// A set of processors.
-pub type ProcSet = IdSet<ProcId, 16>;
+pub type ProcSet = IdSet<ProcId, MOST_PROCESSORS>;
 
 /// A set of cells.
-pub type CellSet = IdSet<CellId, 4>;
+pub type CellSet = IdSet<CellId, MOST_CELLS>;
 
 impl<I: Numbered, const N: usize> IdSet<I, N> {
     /// The set without a member.

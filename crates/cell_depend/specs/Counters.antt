@@ -1,5 +1,6 @@
 -- The counters of a guest's use of cells, and when they are those of its rows.
 use Rattle.std.specs.Prelude.{◌≡◌, ℕ, ◌+◌, ◌-◌, ◌<◌, List, length, map, Bool, true, false, replicate, slice_index_or, slice_set}
+use Rattle.base_words.specs.Limits.{most_cells}
 use Rattle.base_words.specs.declared.frame.Shape.{Shape}
 use Rattle.cell_depend.specs.declared.uses.CellCount.{CellCount}
 use Rattle.cell_depend.specs.CellUse.{Rows, frames_in, vcpus_in}
@@ -15,7 +16,7 @@ no_use = record { frames = 0; vcpus = 0 }
 
 -- the counters of so many cells at the start
 abbrev pub unused : ℕ → UsesState
-unused cells = record { counts = replicate cells no_use; dead = replicate 4 false }
+unused cells = record { counts = replicate cells no_use; dead = replicate most_cells false }
 
 -- the counts of a cell
 abbrev pub count_at : UsesState → ℕ → CellCount

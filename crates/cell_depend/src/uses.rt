@@ -1,5 +1,6 @@
 //! Counters that are kept as frames are taken and given back, and virtual processors loaded and unloaded.
 ghost use Rattle.std.specs.Prelude.{◌≡◌, ◌≢◌, ◌<◌, ◌≤◌, ◌-◌, ◌^◌, ◌↔◌, IfOk, IsTrue, length};
+ghost use Rattle.base_words.specs.Limits.{most_cells};
 ghost use Rattle.base_words.specs.Membership.{IsMember};
 ghost use Rattle.cell_depend.specs.Counters.{count_at, total, unused, with_dead, with_frame, with_vcpu, without_frame, without_frames, without_vcpu};
 
@@ -24,19 +25,20 @@ pub struct Uses {
 
 impl Model for Uses {
     ghost use Rattle.std.specs.Prelude.{◌≤◌, length};
+    ghost use Rattle.base_words.specs.Limits.{most_cells};
     ghost use Rattle.cell_depend.specs.Counters.{UsesState};
 
     ghost Value = { UsesState };
 
     ghost view = { λ s. record { counts = s.counts.items; dead = s.dead } };
 
-    ghost invariant = { λ s. length s.counts.items ≤ 4 };
+    ghost invariant = { λ s. length s.counts.items ≤ most_cells };
 }
 
 impl Uses {
     /// Counters for so many cells, of which none is used and none has failed.
     pub fn new(alloc: Global, cells: u8) -> Result<Self, AllocError>
-        requires { cells ≤ 4 }
+        requires { cells ≤ most_cells }
         ensures { IfOk result (λ uses. uses ≡ unused cells) }
     {
         let none = CellCount {

@@ -1,6 +1,7 @@
 -- What a guest is booted with.
 use Rattle.std.specs.Prelude.{◌≡◌, ℕ, ◌*◌, ◌<◌, ◌≤◌, ◌^◌, List, [], ◌∷◌, length, map, slice_index_or}
 use Rattle.std.specs.Global.{Box}
+use Rattle.base_words.specs.Limits.{most_processors}
 use Rattle.base_words.specs.declared.page.Page.{Page}
 use Rattle.base_words.specs.declared.frame.Frame.{Frame}
 use Rattle.base_words.specs.declared.input.InputEntry.{InputEntry}
@@ -41,7 +42,7 @@ pub record MayStart (around : Around) (image : Image) (vcpus : ℕ) (frames : Li
   pub few_pages : length image.pages ≤ 2048
   pub backed : length frames ≡ length image.pages
   pub no_policy : (around.site.policy.migrate ≡ 0) × (around.site.policy.replicate ≡ 0)
-  pub few_processors : length around.site.processors ≤ 16
+  pub few_processors : length around.site.processors ≤ most_processors
   pub few_guests : length around.site.homes ≤ 8
   pub few_frames : around.site.shape.nodes * around.site.shape.frames < 2 ^ 32
   pub on_nodes : AllBelow around.site.shape.nodes around.site.processors

@@ -1,12 +1,13 @@
 -- The counters of the cells that a guest uses, against the guest's state.
 use Rattle.std.specs.Prelude.{◌≡◌, ℕ, ◌+◌, List, [], ◌∷◌, ◌++◌, length, map, Option, Some, None}
+use Rattle.base_words.specs.Limits.{most_cells}
 use Rattle.base_words.specs.declared.frame.Shape.{Shape}
 use Rattle.base_words.specs.declared.ids.CellId.{CellId}
 use Rattle.base_words.specs.declared.ids.FrameNo.{FrameNo}
 use Rattle.cell_depend.specs.CellUse.{Rows}
 use Rattle.cell_depend.specs.Counters.{UsesState, AreCounts}
 use Rattle.private_machine.specs.Backing.{Copy}
-use Rattle.isolation_law.specs.CellUse.{held}
+use Rattle.isolation_law.specs.CellUse.{used_frames}
 use Rattle.isolation_law.specs.GuestState.{GuestState}
 use Rattle.isolation_law.specs.Parts.{Processor}
 use Rattle.isolation_law.specs.Surroundings.{Surroundings, cell_of_processor}
@@ -25,9 +26,9 @@ abbrev pub loaded_cells : Surroundings → ℕ → List Processor → List CellI
 loaded_cells w p [] = []
 loaded_cells w p (x ∷ processors) = cell_with (cell_of_processor w p) x.loaded ++ loaded_cells w (p + 1) processors
 
--- what a guest's use of cells is counted from: each frame that it holds, and the cell of each processor with something of it loaded
+-- what a guest's use of cells is counted from: each frame by which it uses one, and the cell of each processor with something of it loaded
 abbrev pub rows_of : GuestState → Rows
-rows_of s = record { frames = map frame_of (held s); loaded = loaded_cells s.around 0 s.processors }
+rows_of s = record { frames = map frame_of (used_frames s); loaded = loaded_cells s.around 0 s.processors }
 
 -- the shape of the machine, as a guest is told of it
 pub record IsShapeOf (w : Surroundings) (shape : Shape) : Type 0 where
@@ -38,5 +39,5 @@ pub record IsShapeOf (w : Surroundings) (shape : Shape) : Type 0 where
 pub record AreUses (s : GuestState) (uses : UsesState) : Type 0 where
   pub shape : Shape
   pub told : IsShapeOf s.around shape
-  pub cells : length uses.counts ≡ 4
+  pub cells : length uses.counts ≡ most_cells
   pub counts : AreCounts shape (rows_of s) uses

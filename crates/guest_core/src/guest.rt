@@ -1,5 +1,6 @@
 //! A guest under the monitor, whose journal is a run from its start.
 ghost use Rattle.std.specs.Prelude.{◌≡◌, ◌≢◌, ℕ, ◌≤◌, ◌<◌, ◌+◌, [], ◌∷◌, length, None, Some, All, IfOk, OnOk};
+ghost use Rattle.base_words.specs.Limits.{most_cells};
 ghost use Rattle.std.specs.Bool.{OnTrue, OnFalse};
 ghost use Rattle.shootdown.specs.declared.view.SidedNote.{SidedNote};
 ghost use Rattle.base_words.specs.declared.events.Event.TheVariants.{Unload, End as Ending};
@@ -98,7 +99,7 @@ impl Guest {
     /// processor of the cell. A guest that has ended uses none, though something may be loaded still. It counts nothing anew.
     #[inline]
     pub fn uses(&self, cell: CellId) -> bool
-        requires { cell.0 < 4 }
+        requires { cell.0 < most_cells }
         ensures { result ≡ uses_cell self.now.state cell.0 }
     {
         self.parts.uses(cell)

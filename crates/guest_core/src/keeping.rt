@@ -8,11 +8,12 @@ ghost use Rattle.guest_core.specs.Noting.{shows_loaded};
 ghost use Rattle.guest_core.specs.GuestCalls.{Stays, MayNote};
 
 use crate::parts::Parts;
+use base_words::MOST_PROCESSORS;
 use shootdown::{ProcToken, agree};
 use std::alloc::AllocError;
 
 /// For so many entries the journal has room once room was made: two, and one for each processor that may have to unload.
-const ENTRIES: usize = 18;
+const ENTRIES: usize = 2 + MOST_PROCESSORS;
 
 impl Parts {
     /// Makes room for one further call. A refusal changes nothing but what room there is.

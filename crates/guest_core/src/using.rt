@@ -1,5 +1,6 @@
 //! Which cells a guest uses, counted as it goes.
 ghost use Rattle.std.specs.Prelude.{◌≡◌, ◌≢◌, ◌<◌, ◌≤◌, ◌*◌, ℕ, [], All, IfOk, None, length, map};
+ghost use Rattle.base_words.specs.Limits.{most_cells};
 ghost use Rattle.base_words.specs.declared.frame.Frame.{Frame};
 ghost use Rattle.cell_depend.specs.Counters.{AreCounts};
 ghost use Rattle.isolation_law.specs.CellUse.{uses as uses_cell};
@@ -13,7 +14,7 @@ ghost use Rattle.guest_core.specs.Kept.{IsKept};
 ghost use Rattle.guest_core.specs.Using.{AreUses};
 
 use crate::parts::Parts;
-use base_words::{CellId, FrameList, ProcId, Shape};
+use base_words::{CellId, FrameList, MOST_CELLS, ProcId, Shape};
 use cell_depend::{
     Uses, counters_equal_rows, frame_taken, frames_are_counted, vcpu_loaded, vcpu_unloaded,
     vcpus_are_counted,
@@ -23,7 +24,7 @@ use isolation_law::exchanges;
 use std::alloc::{AllocError, Global};
 
 /// So many cells are counted, as a machine has no more.
-const CELLS: u8 = 4;
+const CELLS: u8 = MOST_CELLS as u8;
 
 /// Counters of these frames, each of the cell in which it lies, with nothing loaded.
 pub(crate) fn count_frames(
@@ -33,7 +34,7 @@ pub(crate) fn count_frames(
 ) -> Result<Uses, AllocError>
     requires within { All (λ (f : Frame). f.number.0 < shape.now.nodes * shape.now.frames) frames.now }
     requires few { length frames.now ≤ 2048 }
-    ensures cells { IfOk result (λ uses. length uses.counts ≡ 4) }
+    ensures cells { IfOk result (λ uses. length uses.counts ≡ most_cells) }
     ensures counts { IfOk result (AreCounts shape.now (record { frames = map (λ (f : Frame). f.number) frames.now; loaded = [] })) }
 {
     counters_equal_rows();
@@ -95,7 +96,7 @@ impl Parts {
     #[inline]
     pub(crate) fn uses(&self, cell: CellId) -> bool
         requires kept { IsKept self.now }
-        requires cell { cell.0 < 4 }
+        requires cell { cell.0 < most_cells }
         ensures { result ≡ uses_cell (guest_of self.now).state cell.0 }
     {
         self.course.ended.is_none() && self.uses.uses(cell)

@@ -2,6 +2,7 @@
 use Rattle.std.proofs.Common.{◌≡◌, ℕ, zero, suc, ◌+◌, ◌*◌, ◌^◌, slice_index, ◌<◌, ◌≤◌, false, List, [], ◌∷◌, ◌++◌, Option, Some, None, length, map, flat_map, get_or, option_map, replicate, take, drop, refl, sym, ap, ◌∙◌, subst, arith}
 use Rattle.std.proofs.lemmas.List.{length-map, length-append, length-replicate}
 use Rattle.std.proofs.Math.Nat.{suc-mul, mul-le-mul_right}
+use Rattle.base_words.specs.Limits.{most_processors}
 use Rattle.private_machine.specs.DevicePage.{nothing_set}
 use Rattle.private_machine.specs.Disk.{Block}
 use Rattle.private_machine.specs.Showing.{shown_by, shown_from}
@@ -44,7 +45,7 @@ pub pages-start : (frames : List Frame) → AreWhole frames → pages_at_start (
 pages-start [] whole = refl
 pages-start (f ∷ frames) whole =
     let rest = flat_map (λ (g : Frame). g.page.value) frames in
-    ap (λ bytes. record { master = record { frame = f.number.0; generation = f.generation; bytes = bytes }; shared = false; replicas = []; mapped = replicate 16 false; move = None } ∷ pages_at_start (map found_of frames) (drop 4096 (f.page.value ++ rest))) (taken f.page.value rest 4096 whole.0)
+    ap (λ bytes. record { master = record { frame = f.number.0; generation = f.generation; bytes = bytes }; shared = false; replicas = []; mapped = replicate most_processors false; move = None } ∷ pages_at_start (map found_of frames) (drop 4096 (f.page.value ++ rest))) (taken f.page.value rest 4096 whole.0)
     ∙ ap (λ (l : List ℕ). own_page f ∷ pages_at_start (map found_of frames) l) (dropped f.page.value rest 4096 whole.0)
     ∙ ap (λ l. own_page f ∷ l) (pages-start frames whole.1)
 
@@ -150,7 +151,7 @@ booted-state c around entry vcpus frames disk input may b =
 pub is-boot : (around : Around) (entry vcpus : ℕ) (frames : List Frame) (disk : List Block) (input : List InputEntry) → MayBoot around vcpus frames disk → IsBoot (boot_of around entry vcpus frames (given_blocks disk) input)
 is-boot around entry vcpus frames disk input may = record {
   has_vcpu = may.some_vcpus;
-  few_processors = subst (λ (n : ℕ). n ≤ 16) (sym (length-map around.site.processors _)) may.few_processors;
+  few_processors = subst (λ (n : ℕ). n ≤ most_processors) (sym (length-map around.site.processors _)) may.few_processors;
   backed = length-map frames found_of;
   whole = memory-length frames may.whole;
   blocks = may.blocks;
@@ -181,7 +182,7 @@ booted-sound c around entry vcpus frames disk input may b co =
         few_vcpus = subst (λ (n : ℕ). n ≤ 4) (sym count) may.few_vcpus;
         transfers = ap (λ (d : DeviceState). length d.page.transfers) b.devs ∙ length-replicate vcpus nothing_set ∙ sym count;
         seconds = ap length b.seconds ∙ length-replicate vcpus no_seconds ∙ sym count;
-        few_processors = subst (λ (n : ℕ). n ≤ 16) (sym place_count) may.few_processors;
+        few_processors = subst (λ (n : ℕ). n ≤ most_processors) (sym place_count) may.few_processors;
         due = ap length b.due ∙ length-replicate (length around.site.processors) None ∙ sym place_count;
         few_pages = subst (λ (n : ℕ). n ≤ 2048) (sym page_count) may.few_pages;
         cells = ap length b.sent_from ∙ ap (λ (d : DeviceState). length d.page.sent) (sym b.devs);

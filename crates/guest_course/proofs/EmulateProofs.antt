@@ -2,6 +2,7 @@
 use Rattle.std.proofs.Common.{◌≡◌, ℕ, ◌<◌, ◌≤◌, if◌then◌else◌, true, false, List, [], ◌∷◌, Option, Some, None, Err, length, map, get_or, set, refl, sym, ap, ◌∙◌, subst, length-set, true≢false}
 use Rattle.std.proofs.lemmas.List.{map-set}
 use Rattle.std.specs.Global.{Vec}
+use Rattle.base_words.specs.Limits.{most_processors}
 use Rattle.base_words.specs.declared.trap.TrapCause.{TrapCause}
 use Rattle.base_words.specs.Halves.{without_pair}
 use Rattle.base_words.specs.Tlb.{page_pair, entry_read}
@@ -60,8 +61,8 @@ denied-trap s p v (ReadOnly word w) live is denied = λ granted none. true≢fal
 denied-trap s p v (Address word) live is denied = tt
 denied-trap s p v (Privileged word) live is denied = tt
 denied-trap s p v (Raised x) live is denied = tt
-denied-trap s p v (Dead frame w) live is denied =
-    never-dead (sight (with_inputs s v) p v) (with_inputs s v).pages (vcpu_of (with_inputs s v) v).registers frame w (no-frame-lost s live) is
+denied-trap s p v (Dead there w) live is denied =
+    never-dead (sight (with_inputs s v) p v) (with_inputs s v).pages (vcpu_of (with_inputs s v) v).registers there w (no-frame-lost s live) is
 
 pub is-trap : (s : GuestState) (p v : ℕ) (cause : TrapCause) → s.dead ≡ no_cells → IsDenied s p v cause → IsTrap (joined (content s) v) v None cause
 is-trap s p v cause live d = record {
@@ -138,7 +139,7 @@ sound-remade c d sound on m loaded co =
         few_vcpus = subst (λ (k : ℕ). k ≤ 4) (sym m.vcpus) sized.few_vcpus;
         transfers = m.fits.transfers;
         seconds = m.seconds ∙ sized.seconds ∙ sym m.vcpus;
-        few_processors = subst (λ (k : ℕ). k ≤ 16) (sym m.places) sized.few_processors;
+        few_processors = subst (λ (k : ℕ). k ≤ most_processors) (sym m.places) sized.few_processors;
         due = m.due ∙ sized.due ∙ sym m.places;
         few_pages = subst (λ (k : ℕ). k ≤ 2048) (sym m.plain.long) sized.few_pages;
         cells = m.cells;
@@ -198,7 +199,7 @@ pub loaded-dropped : (s : GuestState) (p v r pair : ℕ) → (processor (pair_dr
 loaded-dropped s p v r pair = loaded-elsewhere s.processors p r (without_pair pair (processor s p).tlb)
 
 pub is-emulated : (s : GuestState) (p v : ℕ) (cause : TrapCause) → MayStep s p v → IsDenied s p v cause → IsEmulated s p v
-is-emulated s p v cause may d = record { goes_on = may.goes_on; runs = may.runs; may_act = may.may_act; trap = d.why.trap; traps = d.why.traps; is_no_access = d.denied }
+is-emulated s p v cause may d = record { goes_on = may.goes_on; runs = may.runs; may_act = may.may_act; trap = d.why.trap; traps = d.why.traps; is_no_access = d.denied; kept = d.kept }
 
 -- the state after a step that the monitor made
 own-after : (s : GuestState) (c d : Course) (v : ℕ) → s ≡ state_of c → d ≡ record c { vcpus = d.vcpus; devs = d.devs } → own_step (content s) v ≡ content (state_of d) → state_of d ≡ with_own (own_step (content s) v) s

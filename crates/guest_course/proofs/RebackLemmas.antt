@@ -1,6 +1,7 @@
 -- A guest after a change of what backs it: processors, pages, second-level entries and choices that are due.
 use Rattle.std.proofs.Common.{◌≡◌, ◌⊎◌, inl, inr, ◌+◌, ℕ, zero, suc, ◌<◌, ◌≤◌, List, [], ◌∷◌, Some, None, length, map, get_or, set, refl, sym, ap, ◌∙◌, subst, arith}
 use Rattle.std.specs.Global.{Vec}
+use Rattle.base_words.specs.Limits.{most_processors}
 use Rattle.base_words.specs.Halves.{Half}
 use Rattle.isolation_law.specs.Surroundings.{Surroundings}
 use Rattle.isolation_law.specs.Parts.{Processor}
@@ -31,7 +32,7 @@ sound-rebacked c d sound r loaded co =
         few_vcpus = rw r.vcpus sized.few_vcpus;
         transfers = rw (r.devs, r.vcpus) sized.transfers;
         seconds = r.seconds ∙ sized.seconds ∙ ap (λ l. length l.items) (sym r.vcpus);
-        few_processors = subst (λ (k : ℕ). k ≤ 16) (sym r.places) sized.few_processors;
+        few_processors = subst (λ (k : ℕ). k ≤ most_processors) (sym r.places) sized.few_processors;
         due = r.due ∙ sized.due ∙ sym r.places;
         few_pages = subst (λ (k : ℕ). k ≤ 2048) (sym r.plain.long) sized.few_pages;
         cells = rw (r.sent_from, r.devs) sized.cells;

@@ -22,6 +22,7 @@ use Rattle.guest_course.specs.CourseView.{state_of, got_of}
 use Rattle.guest_course.specs.CourseRules.{IsSound}
 use Rattle.guest_course.specs.EmulateCalls.{StaysLoaded}
 use Rattle.guest_course.proofs.CommandRows.{plain-needs}
+use Rattle.guest_course.proofs.DirectRow.{none-dead}
 use Rattle.guest_course.proofs.EmulateProofs.{Remade}
 use Rattle.guest_course.proofs.PlainLemmas.{plain-set}
 use Rattle.guest_course.proofs.StepProofs.{goes-on}
@@ -34,14 +35,6 @@ pub record Received (c d : Course) (q : ℕ) (x : GotPacket) : Type 0 where
   pub pmap : d.pmap ≡ with_page c.pmap q (with_first x.bytes (page_at c.pmap.pages q))
   pub received : d.received.items ≡ c.received.items ++ x ∷ []
   pub agree : Agree d.devs.state d.vcpus.items
-
--- no cell is dead
-none-dead : (k : ℕ) → get_or no_cells k false ≡ false
-none-dead zero = refl
-none-dead (suc zero) = refl
-none-dead (suc (suc zero)) = refl
-none-dead (suc (suc (suc zero))) = refl
-none-dead (suc (suc (suc (suc k)))) = refl
 
 state-received : (c d : Course) (q : ℕ) (x : GotPacket) → (state_of c).devices.armed ≡ Some q → Received c d q x
     → state_of d ≡ with_received (state_of c) (got_of x) (record (state_of c) { pages = (with_page c.pmap q (with_first x.bytes (page_at c.pmap.pages q))).pages })

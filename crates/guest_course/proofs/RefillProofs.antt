@@ -22,8 +22,8 @@ use Rattle.isolation_law.specs.GuestState.{GuestState, page, processor, vcpu_of,
 use Rattle.isolation_law.specs.Content.{content}
 use Rattle.isolation_law.specs.Start.{no_cells}
 use Rattle.isolation_law.specs.Coherence.{Coherent}
-use Rattle.isolation_law.specs.DirectStep.{with_inputs, sight}
-use Rattle.isolation_law.specs.Needs.{none_of}
+use Rattle.isolation_law.specs.DirectStep.{lost_frames, with_inputs, sight}
+use Rattle.isolation_law.specs.Needs.{none_of, for_lost}
 use Rattle.isolation_law.specs.RefillRow.{half_for, second_for, Refills}
 use Rattle.isolation_law.specs.Traps.{step_on, is_granted}
 use Rattle.guest_course.specs.declared.granting.Granted.{Granted}
@@ -89,11 +89,23 @@ denied-other law s p v (ReadOnly word w) co plain live loaded is none =
 denied-other law s p v (Address word) co plain live loaded is none = refl
 denied-other law s p v (Privileged word) co plain live loaded is none = refl
 denied-other law s p v (Raised x) co plain live loaded is none = refl
-denied-other law s p v (Dead frame w) co plain live loaded is none =
-    absurd (never-dead (sight (with_inputs s v) p v) (with_inputs s v).pages (vcpu_of (with_inputs s v) v).registers frame w (no-frame-lost s live) is)
+denied-other law s p v (Dead there w) co plain live loaded is none =
+    absurd (never-dead (sight (with_inputs s v) p v) (with_inputs s v).pages (vcpu_of (with_inputs s v) v).registers there w (no-frame-lost s live) is)
 
-pub stays-denied : (s t : GuestState) (p v : ℕ) (cause : TrapCause) (x : TrapsFor s p v cause) → is_granted s v (trapped_access x.trap) ≡ false → t ≡ s → StaysDenied s p v cause t
-stays-denied s t p v cause x denied same = record { why = record { why = x; denied = denied }; same = same }
+-- nor has a page to be collapsed, as no frame is lost
+kept-live : (s : GuestState) (p v : ℕ) (trap : Trap) → s.dead ≡ no_cells → step_on s p v ≡ Err trap → for_lost s trap ≡ None
+kept-live s p v Line live is = refl
+kept-live s p v (FetchMiss w) live is = refl
+kept-live s p v (DataMiss word w) live is = refl
+kept-live s p v (ReadOnly word w) live is = refl
+kept-live s p v (Address word) live is = refl
+kept-live s p v (Privileged word) live is = refl
+kept-live s p v (Raised x) live is = refl
+kept-live s p v (Dead there w) live is =
+    absurd (never-dead (sight (with_inputs s v) p v) (with_inputs s v).pages (vcpu_of (with_inputs s v) v).registers there w (no-frame-lost s live) is)
+
+pub stays-denied : (s t : GuestState) (p v : ℕ) (cause : TrapCause) (x : TrapsFor s p v cause) → s.dead ≡ no_cells → is_granted s v (trapped_access x.trap) ≡ false → t ≡ s → StaysDenied s p v cause t
+stays-denied s t p v cause x live denied same = record { why = record { why = x; denied = denied; kept = kept-live s p v x.trap live x.traps }; same = same }
 
 -- the half that joined is the access's
 pub refills : (s t : GuestState) (p v : ℕ) (cause : TrapCause) (may : MayStep s p v) (x : TrapsFor s p v cause) (w : Wanted) (g : Granted) → missed_access x.trap ≡ Some w → AllPlain s.pages
@@ -106,7 +118,7 @@ refills s t p v cause may x w g misses plain l f =
       asid = c.cp0.entry_hi.asid;
       global = l.everywhere i;
       page = l.page_is i;
-      frame = nearest s.around.frames (node_of_processor s.around p) (page s (l.page_is i));
+      frame = nearest s.around.frames (lost_frames s.around s.dead) (node_of_processor s.around p) (page s (l.page_is i));
       writable = not (page s (l.page_is i)).shared && (none_of (page s (l.page_is i)).replicas && l.stores i);
     } in
     let second : second_of s v w.address g ≡ second_for s v w q = λ i. record {

@@ -1,5 +1,6 @@
 -- A step through a processor's TLB keeps what holds of a guest, and is its row.
 use Rattle.std.proofs.Common.{◌≡◌, ℕ, ◌<◌, ◌≤◌, ◌==◌, if◌then◌else◌, Bool, true, false, Some, None, Result, Ok, List, length, map, get_or, replicate, refl, sym, ap, ◌∙◌, subst, length-set}
+use Rattle.base_words.specs.Limits.{most_processors}
 use Rattle.base_words.specs.declared.trap.Access.{Access}
 use Rattle.base_words.specs.declared.trap.DataAccess.{DataAccess}
 use Rattle.base_words.specs.declared.trap.DataAccess.TheVariants as access_of
@@ -192,7 +193,7 @@ sound-after c d x p v access m n co =
         few_vcpus = subst (λ (k : ℕ). k ≤ 4) (sym count) sized.few_vcpus;
         transfers = transfers ∙ sized.transfers ∙ sym count;
         seconds = ap (λ l. length l.items) seconds ∙ sized.seconds ∙ sym count;
-        few_processors = subst (λ (l : Vec Place). length l.items ≤ 16) (sym places) sized.few_processors;
+        few_processors = subst (λ (l : Vec Place). length l.items ≤ most_processors) (sym places) sized.few_processors;
         due = n.dues ∙ ap (λ l. length l.items) dues ∙ sized.due ∙ ap (λ (l : Vec Place). length l.items) (sym places);
         few_pages = subst (λ (k : ℕ). k ≤ 2048) (sym pages) sized.few_pages;
         cells = ap (λ l. length l.items) from ∙ sized.cells ∙ ap length (sym sent);
@@ -226,7 +227,7 @@ sound-stays c d p v cause sound h u =
         few_vcpus = subst (λ (k : ℕ). k ≤ 4) (sym count) sized.few_vcpus;
         transfers = ap (λ (y : DevicePage). length y.transfers) page ∙ sized.transfers ∙ sym count;
         seconds = ap (λ l. length l.items) seconds ∙ sized.seconds ∙ sym count;
-        few_processors = subst (λ (l : Vec Place). length l.items ≤ 16) (sym places) sized.few_processors;
+        few_processors = subst (λ (l : Vec Place). length l.items ≤ most_processors) (sym places) sized.few_processors;
         due = ap (λ l. length l.items) dues ∙ sized.due ∙ ap (λ (l : Vec Place). length l.items) (sym places);
         few_pages = subst (λ (l : List Page). length l ≤ 2048) (sym pages) sized.few_pages;
         cells = ap (λ (y : Course). length y.sent_from.items) same ∙ sized.cells ∙ ap (λ (y : DevicePage). length y.sent) (sym page);

@@ -22,7 +22,7 @@ has-access regs (ReadOnly word w) tells = tt
 has-access regs (Address word) tells = tt
 has-access regs (Privileged word) tells = tt
 has-access regs (Raised x) tells = tt
-has-access regs (Dead frame w) tells = tt
+has-access regs (Dead there w) tells = tt
 
 pub missed-is : (regs : Regs) (trap : Trap) → TellsAccess regs trap → missed_of regs (cause_of trap) ≡ missed_access trap
 missed-is regs Line tells = refl
@@ -32,7 +32,7 @@ missed-is regs (ReadOnly word w) tells = refl
 missed-is regs (Address word) tells = refl
 missed-is regs (Privileged word) tells = refl
 missed-is regs (Raised x) tells = refl
-missed-is regs (Dead frame w) tells = refl
+missed-is regs (Dead there w) tells = refl
 
 pub trapped-is : (trap : Trap) (w : Wanted) → missed_access trap ≡ Some w → trapped_access trap ≡ Some w
 trapped-is Line w e = cc
@@ -42,7 +42,7 @@ trapped-is (ReadOnly word x) w e = cc
 trapped-is (Address word) w e = cc
 trapped-is (Privileged word) w e = cc
 trapped-is (Raised x) w e = cc
-trapped-is (Dead frame x) w e = cc
+trapped-is (Dead there x) w e = cc
 
 -- what an access lacked
 pub record Lacks (x : Sight) (w : Wanted) : Type 0 where
@@ -56,13 +56,13 @@ same-some a b e = cc
 fetch-lacks : (x : Sight) (w own : Wanted) (lack : Lack) → reached x own ≡ Err lack → missed_access (fetch_trap own lack) ≡ Some w → Lacks x w
 fetch-lacks x w own NoRange is e = cc
 fetch-lacks x w own NoHalf is e = subst (Lacks x) (same-some own w e) (record { lack = NoHalf; reaches = is; ranges = λ n. cc })
-fetch-lacks x w own (DeadFrame frame) is e = cc
+fetch-lacks x w own (DeadFrame there) is e = cc
 fetch-lacks x w own NoStore is e = subst (Lacks x) (same-some own w e) (record { lack = NoStore; reaches = is; ranges = λ n. cc })
 
 data-lacks : (x : Sight) (w own : Wanted) (word : ℕ) (lack : Lack) → reached x own ≡ Err lack → missed_access (data_trap word own lack) ≡ Some w → Lacks x w
 data-lacks x w own word NoRange is e = cc
 data-lacks x w own word NoHalf is e = subst (Lacks x) (same-some own w e) (record { lack = NoHalf; reaches = is; ranges = λ n. cc })
-data-lacks x w own word (DeadFrame frame) is e = cc
+data-lacks x w own word (DeadFrame there) is e = cc
 data-lacks x w own word NoStore is e = cc
 
 trap-same : (a b : Trap) → ◌≡◌ {A = Result Done Trap} (Err a) (Err b) → a ≡ b
@@ -126,61 +126,61 @@ is-in-range x w l out = by (w.address % w.unit == 0) l.reaches
     by false e = l.ranges (sym (lack-same NoRange l.lack e))
 
 -- where no frame is lost, no processor traps for one
-lost-through : (x : Sight) (w : Wanted) (h : Option Half) (frame : ℕ) → ((f : ℕ) → x.lost f ≡ false) → through_half x w h ≡ Err (DeadFrame frame) → ⊥
-lost-through x w None frame live e = cc
-lost-through x w (Some h) frame live e = by (is_store w.purpose && not h.writable) (ap (λ (b : Bool). if b then Err (DeadFrame h.frame) else (if is_store w.purpose && not h.writable then Err NoStore else Ok (at_half h))) (sym (live h.frame)) ∙ e)
+lost-through : (x : Sight) (w : Wanted) (h : Option Half) (there : Reached) → ((f : ℕ) → x.lost f ≡ false) → through_half x w h ≡ Err (DeadFrame there) → ⊥
+lost-through x w None there live e = cc
+lost-through x w (Some h) there live e = by (is_store w.purpose && not h.writable) (ap (λ (b : Bool). if b then Err (DeadFrame (at_half h)) else (if is_store w.purpose && not h.writable then Err NoStore else Ok (at_half h))) (sym (live h.frame)) ∙ e)
   where
-    by : (b : Bool) → (if b then Err NoStore else Ok (at_half h)) ≡ Err (DeadFrame frame) → ⊥
+    by : (b : Bool) → (if b then Err NoStore else Ok (at_half h)) ≡ Err (DeadFrame there) → ⊥
     by true e = cc
     by false e = cc
 
-lost-segment : (x : Sight) (w : Wanted) (g : Segment) (frame : ℕ) → ((f : ℕ) → x.lost f ≡ false) → in_segment x w g ≡ Err (DeadFrame frame) → ⊥
-lost-segment x w Mapped frame live e = lost-through x w (find (is_of (w.address / 4096) x.asid) x.tlb) frame live e
-lost-segment x w Direct frame live e = lost-through x w (find (is_of (w.address / 4096) x.asid) x.tlb) frame live e
-lost-segment x w Outside frame live e = cc
+lost-segment : (x : Sight) (w : Wanted) (g : Segment) (there : Reached) → ((f : ℕ) → x.lost f ≡ false) → in_segment x w g ≡ Err (DeadFrame there) → ⊥
+lost-segment x w Mapped there live e = lost-through x w (find (is_of (w.address / 4096) x.asid) x.tlb) there live e
+lost-segment x w Direct there live e = lost-through x w (find (is_of (w.address / 4096) x.asid) x.tlb) there live e
+lost-segment x w Outside there live e = cc
 
-lost-reached : (x : Sight) (w : Wanted) (frame : ℕ) → ((f : ℕ) → x.lost f ≡ false) → reached x w ≡ Err (DeadFrame frame) → ⊥
-lost-reached x w frame live e = by (w.address % w.unit == 0) e
+lost-reached : (x : Sight) (w : Wanted) (there : Reached) → ((f : ℕ) → x.lost f ≡ false) → reached x w ≡ Err (DeadFrame there) → ⊥
+lost-reached x w there live e = by (w.address % w.unit == 0) e
   where
-    by : (b : Bool) → (if b then in_segment x w (segment x.user w.address) else Err NoRange) ≡ Err (DeadFrame frame) → ⊥
-    by true e = lost-segment x w (segment x.user w.address) frame live e
+    by : (b : Bool) → (if b then in_segment x w (segment x.user w.address) else Err NoRange) ≡ Err (DeadFrame there) → ⊥
+    by true e = lost-segment x w (segment x.user w.address) there live e
     by false e = cc
 
-lost-fetch : (x : Sight) (own w : Wanted) (lack : Lack) (frame : ℕ) → ((f : ℕ) → x.lost f ≡ false) → reached x own ≡ Err lack → fetch_trap own lack ≡ Dead frame w → ⊥
-lost-fetch x own w NoRange frame live is e = cc
-lost-fetch x own w NoHalf frame live is e = cc
-lost-fetch x own w (DeadFrame f) frame live is e = lost-reached x own f live is
-lost-fetch x own w NoStore frame live is e = cc
+lost-fetch : (x : Sight) (own w : Wanted) (lack : Lack) (there : Reached) → ((f : ℕ) → x.lost f ≡ false) → reached x own ≡ Err lack → fetch_trap own lack ≡ Dead there w → ⊥
+lost-fetch x own w NoRange there live is e = cc
+lost-fetch x own w NoHalf there live is e = cc
+lost-fetch x own w (DeadFrame f) there live is e = lost-reached x own f live is
+lost-fetch x own w NoStore there live is e = cc
 
-lost-data : (x : Sight) (own w : Wanted) (word : ℕ) (r : Result Reached Lack) (at : Reached) (does : Effect) (frame : ℕ) → ((f : ℕ) → x.lost f ≡ false) → reached x own ≡ r → with_data word own at does r ≡ Err (Dead frame w) → ⊥
-lost-data x own w word (Ok to) at does frame live is e = cc
-lost-data x own w word (Err NoRange) at does frame live is e = cc
-lost-data x own w word (Err NoHalf) at does frame live is e = cc
-lost-data x own w word (Err (DeadFrame f)) at does frame live is e = lost-reached x own f live is
-lost-data x own w word (Err NoStore) at does frame live is e = cc
+lost-data : (x : Sight) (own w : Wanted) (word : ℕ) (r : Result Reached Lack) (at : Reached) (does : Effect) (there : Reached) → ((f : ℕ) → x.lost f ≡ false) → reached x own ≡ r → with_data word own at does r ≡ Err (Dead there w) → ⊥
+lost-data x own w word (Ok to) at does there live is e = cc
+lost-data x own w word (Err NoRange) at does there live is e = cc
+lost-data x own w word (Err NoHalf) at does there live is e = cc
+lost-data x own w word (Err (DeadFrame f)) at does there live is e = lost-reached x own f live is
+lost-data x own w word (Err NoStore) at does there live is e = cc
 
-lost-accesses : (x : Sight) (w : Wanted) (word : ℕ) (at : Reached) (does : Effect) (own : Option Wanted) (frame : ℕ) → ((f : ℕ) → x.lost f ≡ false) → accesses x word at does own ≡ Err (Dead frame w) → ⊥
-lost-accesses x w word at does None frame live e = cc
-lost-accesses x w word at does (Some own) frame live e = lost-data x own w word (reached x own) at does frame live refl e
+lost-accesses : (x : Sight) (w : Wanted) (word : ℕ) (at : Reached) (does : Effect) (own : Option Wanted) (there : Reached) → ((f : ℕ) → x.lost f ≡ false) → accesses x word at does own ≡ Err (Dead there w) → ⊥
+lost-accesses x w word at does None there live e = cc
+lost-accesses x w word at does (Some own) there live e = lost-data x own w word (reached x own) at does there live refl e
 
-lost-executes : (x : Sight) (w : Wanted) (word : ℕ) (at : Reached) (r : Result Effect Exception) (frame : ℕ) → ((f : ℕ) → x.lost f ≡ false) → executes x word at r ≡ Err (Dead frame w) → ⊥
-lost-executes x w word at (Err exception) frame live e = cc
-lost-executes x w word at (Ok does) frame live e = lost-accesses x w word at does (wanted does.request) frame live e
+lost-executes : (x : Sight) (w : Wanted) (word : ℕ) (at : Reached) (r : Result Effect Exception) (there : Reached) → ((f : ℕ) → x.lost f ≡ false) → executes x word at r ≡ Err (Dead there w) → ⊥
+lost-executes x w word at (Err exception) there live e = cc
+lost-executes x w word at (Ok does) there live e = lost-accesses x w word at does (wanted does.request) there live e
 
-lost-decodes : (x : Sight) (w : Wanted) (regs : Regs) (at : Reached) (word frame : ℕ) → ((f : ℕ) → x.lost f ≡ false) → decodes x regs at word ≡ Err (Dead frame w) → ⊥
-lost-decodes x w regs at word frame live e = by (is_privileged word) e
+lost-decodes : (x : Sight) (w : Wanted) (regs : Regs) (at : Reached) (word : ℕ) (there : Reached) → ((f : ℕ) → x.lost f ≡ false) → decodes x regs at word ≡ Err (Dead there w) → ⊥
+lost-decodes x w regs at word there live e = by (is_privileged word) e
   where
-    by : (b : Bool) → (if b then Err (Privileged word) else executes x word at (effect (decoded word) regs)) ≡ Err (Dead frame w) → ⊥
+    by : (b : Bool) → (if b then Err (Privileged word) else executes x word at (effect (decoded word) regs)) ≡ Err (Dead there w) → ⊥
     by true e = cc
-    by false e = lost-executes x w word at (effect (decoded word) regs) frame live e
+    by false e = lost-executes x w word at (effect (decoded word) regs) there live e
 
-lost-fetches : (x : Sight) (w : Wanted) (pages : List Page) (regs : Regs) (r : Result Reached Lack) (frame : ℕ) → ((f : ℕ) → x.lost f ≡ false) → reached x (fetch_at regs.pc) ≡ r → fetches x pages regs r ≡ Err (Dead frame w) → ⊥
-lost-fetches x w pages regs (Err lack) frame live is e = lost-fetch x (fetch_at regs.pc) w lack frame live is (trap-same (fetch_trap (fetch_at regs.pc) lack) (Dead frame w) e)
-lost-fetches x w pages regs (Ok at) frame live is e = lost-decodes x w regs at (word_through pages at regs.pc) frame live e
+lost-fetches : (x : Sight) (w : Wanted) (pages : List Page) (regs : Regs) (r : Result Reached Lack) (there : Reached) → ((f : ℕ) → x.lost f ≡ false) → reached x (fetch_at regs.pc) ≡ r → fetches x pages regs r ≡ Err (Dead there w) → ⊥
+lost-fetches x w pages regs (Err lack) there live is e = lost-fetch x (fetch_at regs.pc) w lack there live is (trap-same (fetch_trap (fetch_at regs.pc) lack) (Dead there w) e)
+lost-fetches x w pages regs (Ok at) there live is e = lost-decodes x w regs at (word_through pages at regs.pc) there live e
 
-pub never-dead : (x : Sight) (pages : List Page) (regs : Regs) (frame : ℕ) (w : Wanted) → ((f : ℕ) → x.lost f ≡ false) → hardware_step x pages regs ≡ Err (Dead frame w) → ⊥
-never-dead x pages regs frame w live e = by x.line e
+pub never-dead : (x : Sight) (pages : List Page) (regs : Regs) (there : Reached) (w : Wanted) → ((f : ℕ) → x.lost f ≡ false) → hardware_step x pages regs ≡ Err (Dead there w) → ⊥
+never-dead x pages regs there w live e = by x.line e
   where
-    by : (b : Bool) → (if b then Err Line else fetches x pages regs (reached x (fetch_at regs.pc))) ≡ Err (Dead frame w) → ⊥
+    by : (b : Bool) → (if b then Err Line else fetches x pages regs (reached x (fetch_at regs.pc))) ≡ Err (Dead there w) → ⊥
     by true e = cc
-    by false e = lost-fetches x w pages regs (reached x (fetch_at regs.pc)) frame live refl e
+    by false e = lost-fetches x w pages regs (reached x (fetch_at regs.pc)) there live refl e

@@ -1,5 +1,6 @@
 -- What holds of a guest's parts at every moment.
 use Rattle.std.specs.Prelude.{◌≡◌, ℕ, suc, ◌+◌, ◌*◌, ◌<◌, ◌≤◌, false, List, [], ◌∷◌, Option, Some, None, length}
+use Rattle.base_words.specs.Limits.{most_processors}
 use Rattle.base_words.specs.declared.trap.DataAccess.{DataAccess}
 use Rattle.base_words.specs.declared.trap.DataAccess.TheVariants as access
 use Rattle.private_machine.specs.Backing.{Page, page_at}
@@ -36,7 +37,7 @@ pub record IsSized (c : Course) : Type 0 where
   pub few_vcpus : length c.vcpus.items ≤ 4
   pub transfers : length c.devs.state.page.transfers ≡ length c.vcpus.items
   pub seconds : length c.seconds.items ≡ length c.vcpus.items
-  pub few_processors : length c.places.items ≤ 16
+  pub few_processors : length c.places.items ≤ most_processors
   pub due : length c.due.items ≡ length c.places.items
   pub few_pages : length c.pmap.pages ≤ 2048
   pub cells : length c.sent_from.items ≡ length c.devs.state.page.sent

@@ -1,10 +1,12 @@
 -- What becomes of an access for which a processor trapped.
 use Rattle.std.specs.Prelude.{◌≡◌, ℕ, ◌/◌, ◌<◌, ◌≤◌, length, List, not, ◌&&◌}
+use Rattle.base_words.specs.Limits.{most_processors}
 use Rattle.base_words.specs.declared.trap.TrapCause.{TrapCause}
 use Rattle.base_words.specs.Halves.{Half, Fills}
 use Rattle.private_machine.specs.Backing.{nearest}
 use Rattle.private_machine.specs.PageMove.{named_by}
 use Rattle.private_machine.specs.SecondLevel.{Second, put}
+use Rattle.isolation_law.specs.DirectStep.{lost_frames}
 use Rattle.isolation_law.specs.Surroundings.{node_of_processor}
 use Rattle.isolation_law.specs.GuestState.{GuestState, page, processor, second_level, vcpu_of, with_page, with_tlb, with_second_level}
 use Rattle.isolation_law.specs.Needs.{none_of}
@@ -33,7 +35,7 @@ half_of s p v address g = record {
   asid = (vcpu_of s v).cp0.entry_hi.asid;
   global = g.global;
   page = g.page.0;
-  frame = nearest s.around.frames (node_of_processor s.around p) (page s g.page.0);
+  frame = nearest s.around.frames (lost_frames s.around s.dead) (node_of_processor s.around p) (page s g.page.0);
   writable = not (page s g.page.0).shared && (none_of (page s g.page.0).replicas && g.store);
 }
 
@@ -55,7 +57,7 @@ pub record IsFilled (s : GuestState) (p v address : ℕ) (g : Granted) (t : Gues
 -- the processor, the virtual processor with its second-level entries, and the page are there
 pub record MayFill (c : Course) (p v q : ℕ) : Type 0 where
   pub is_processor : p < length c.places.items
-  pub few_processors : length c.places.items ≤ 16
+  pub few_processors : length c.places.items ≤ most_processors
   pub is_vcpu : v < length c.vcpus.items
   pub seconds : length c.seconds.items ≡ length c.vcpus.items
   pub is_page : q < length c.pmap.pages

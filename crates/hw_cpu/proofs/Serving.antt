@@ -26,13 +26,13 @@ found-serves h p (half ∷ halves) all = found-at h half (find p halves) all.0 (
 abbrev pub Good : Held → Bool → HwAnswer → Type 0
 Good h store (Hit frame page) = Backs h page.0 frame.0 × (store ≡ true → BacksAlone h page.0 frame.0)
 Good h store Miss = Unit {0}
-Good h store (ReadOnly frame) = (page : ℕ) × Backs h page frame.0
+Good h store (ReadOnly frame page) = Backs h page.0 frame.0
 
 good-writable : (h : Held) (store writable : Bool) (half : Half) → half.writable ≡ writable → Serves h half
-    → Good h store (if store && not writable then ReadOnly (record { 0 = half.frame }) else Hit (record { 0 = half.frame }) (record { 0 = half.page }))
+    → Good h store (if store && not writable then ReadOnly (record { 0 = half.frame }) (record { 0 = half.page }) else Hit (record { 0 = half.frame }) (record { 0 = half.page }))
 good-writable h false writable half is serves = (serves.0, λ s. cc)
 good-writable h true true half is serves = (serves.0, λ s. serves.1 is)
-good-writable h true false half is serves = (half.page, serves.0)
+good-writable h true false half is serves = serves.0
 
 good-through : (h : Held) (store : Bool) (o : Option Half) → ServesIf h o → Good h store (through store o)
 good-through h store None serves = tt

@@ -37,7 +37,7 @@ place_of at = record { page = at.page.0; frame = at.frame.0 }
 abbrev pub want_of : Lack → Want
 want_of lacks.Range = NoRange
 want_of lacks.Half = NoHalf
-want_of (lacks.Dead frame) = DeadFrame frame.0
+want_of (lacks.Dead at) = DeadFrame (place_of at)
 want_of lacks.Store = NoStore
 
 abbrev pub found_of : Result Reached Lack → Result Place Want

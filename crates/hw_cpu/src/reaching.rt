@@ -25,8 +25,8 @@ pub enum Lack {
     Range,
     /// No valid half matches.
     Half,
-    /// The half's frame lies in a cell that has failed.
-    Dead(FrameNo),
+    /// The half's frame lies in a cell that has failed; with the page of which it is one.
+    Dead(Reached),
     /// The half isn't writable.
     Store,
 }
@@ -73,15 +73,15 @@ fn find<B: Bus>(
     match tlb.lookup(address, mode.asid, is_store(purpose)) {
         HwAnswer::Hit(frame, page) => {
             if bus.is_dead(frame) {
-                Err(Lack::Dead(frame))
+                Err(Lack::Dead(Reached { page, frame }))
             } else {
                 Ok(Reached { page, frame })
             }
         }
         HwAnswer::Miss => Err(Lack::Half),
-        HwAnswer::ReadOnly(frame) => {
+        HwAnswer::ReadOnly(frame, page) => {
             if bus.is_dead(frame) {
-                Err(Lack::Dead(frame))
+                Err(Lack::Dead(Reached { page, frame }))
             } else {
                 Err(Lack::Store)
             }

@@ -36,7 +36,7 @@ fn fetch_cause(lack: Lack) -> TrapCause
     match lack {
         Lack::Range => TrapCause::Address(None),
         Lack::Half | Lack::Store => TrapCause::FetchMiss,
-        Lack::Dead(frame) => TrapCause::Dead(frame),
+        Lack::Dead(at) => TrapCause::Dead(at.frame),
     }
 }
 
@@ -47,7 +47,7 @@ fn data_cause(word: u32, lack: Lack) -> TrapCause
     match lack {
         Lack::Range => TrapCause::Address(Some(word)),
         Lack::Half => TrapCause::DataMiss(word),
-        Lack::Dead(frame) => TrapCause::Dead(frame),
+        Lack::Dead(at) => TrapCause::Dead(at.frame),
         Lack::Store => TrapCause::ReadOnly(word),
     }
 }

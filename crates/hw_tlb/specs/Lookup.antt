@@ -8,7 +8,7 @@ use Rattle.hw_tlb.specs.declared.answer.HwAnswer.TheVariants.{Hit, Miss, ReadOnl
 abbrev pub through : Bool → Option Half → HwAnswer
 through store None = Miss
 through store (Some h) =
-    if store && not h.writable then ReadOnly (record { 0 = h.frame })
+    if store && not h.writable then ReadOnly (record { 0 = h.frame }) (record { 0 = h.page })
     else Hit (record { 0 = h.frame }) (record { 0 = h.page })
 
 -- What the TLB says of an address in an address space, for a store or another use: the half of its virtual page counts.

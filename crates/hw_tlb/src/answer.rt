@@ -8,6 +8,6 @@ pub enum HwAnswer {
     Hit(FrameNo, Ppn),
     /// No half is of the virtual page in this address space.
     Miss,
-    /// A store, and the half isn't writable. The virtual page lies in this frame.
-    ReadOnly(FrameNo),
+    /// A store, and the half isn't writable. The virtual page lies in this frame, which has this page of the guest.
+    ReadOnly(FrameNo, Ppn),
 }

@@ -98,7 +98,7 @@ impl Room {
         ensures { result ≡ through store (Some (half_of self.now)) }
     {
         if store && !self.writable {
-            HwAnswer::ReadOnly(self.frame)
+            HwAnswer::ReadOnly(self.frame, self.page)
         } else {
             HwAnswer::Hit(self.frame, self.page)
         }

@@ -30,7 +30,12 @@ fn answers(rt: HostRuntime) {
         (0x0040_0FFF, 7, false, hit(5)), // its last byte
         (0x0040_0000, 7, true, hit(5)), // a store, and the half is writable
         (0x0040_1000, 7, false, hit(6)), // the odd page
-        (0x0040_1FFF, 7, true, HwAnswer::ReadOnly(FrameNo(60))), // a store, and the half isn't writable
+        (
+            0x0040_1FFF,
+            7,
+            true,
+            HwAnswer::ReadOnly(FrameNo(60), Ppn(6)),
+        ), // a store, and the half isn't writable
         (0x0040_2000, 7, false, HwAnswer::Miss), // the page after the pair
         (0x003F_FFFF, 7, false, HwAnswer::Miss), // the page before it
         (0x0040_0000, 8, false, HwAnswer::Miss), // another address space

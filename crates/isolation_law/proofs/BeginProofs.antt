@@ -1,10 +1,11 @@
 -- A begin keeps coherence and content.
-use Rattle.std.proofs.Common.{◌≡◌, ℕ, zero, suc, ◌<◌, ◌≤◌, ◌==◌, Bool, true, false, not, ◌&&◌, cond, Option, Some, None, List, [], ◌∷◌, length, map, set, refl, sym, ap, ◌∙◌, subst, arith, true≢false, if◌then◌else◌, inr, get_or-set_same}
+use Rattle.std.proofs.Common.{◌≡◌, ℕ, zero, suc, ◌<◌, ◌≤◌, ◌==◌, Bool, true, false, not, ◌&&◌, cond, Option, Some, None, List, [], ◌∷◌, length, map, set, refl, sym, ap, ◌∙◌, subst, arith, true≢false, if◌then◌else◌, inr, ⊎_elim, Result, Ok, Err, get_or-set_same}
 use Rattle.std.proofs.lemmas.Bool.{eq-eqb, eqb-true}
 use Rattle.std.proofs.lemmas.List.{length-map}
 use Rattle.std.specs.Prelude.{count_by, slice_get, remove}
 use Rattle.base_words.specs.Membership.{Has}
 use Rattle.private_machine.specs.Backing.{Copy, Change, Migrates, Replicates, Collapses, Breaks, TakesShared, GivesShared, no_page}
+use Rattle.private_machine.specs.HardwareStep.{Trap, Done}
 use Rattle.private_machine.specs.Operation.{Packet as InHand, Operation, ReadsBlock, Delivers}
 use Rattle.private_machine.specs.OwnStep.{joined, input_joined}
 use Rattle.private_machine.specs.PageMove.{kind_of, begun}
@@ -17,9 +18,10 @@ use Rattle.private_machine.specs.Disk.{block_now}
 use Rattle.isolation_law.specs.Content.{content}
 use Rattle.isolation_law.specs.GuestState.{GuestState, page, second_level, with_page, hand_place, operation_of, with_operation}
 use Rattle.isolation_law.specs.MoveRows.{Asks, Fits, bytes_for, Begins}
-use Rattle.isolation_law.specs.Needs.{needed, for_packet}
+use Rattle.isolation_law.specs.Needs.{needed, of_step, for_packet}
 use Rattle.isolation_law.specs.Parts.{Wish}
 use Rattle.isolation_law.specs.StepAct.{at_hand}
+use Rattle.isolation_law.specs.Traps.{step_on}
 use Rattle.base_words.specs.declared.moves.By.{By}
 use Rattle.base_words.specs.declared.moves.By.TheVariants.{Plan, Due, Step, Packet}
 use Rattle.base_words.specs.declared.moves.MoveKind.{MoveKind}
@@ -45,6 +47,10 @@ needed-whole s v shares (SendsPage q length to) r k o within needs = grind arith
 needed-whole s v shares (WritesEntry index) r k o within needs = cc
 needed-whole s v shares NoAct r k o within needs = cc
 
+lost-whole : (s : GuestState) (step : Result Done Trap) (r : ℕ) (k : MoveKind) (o : Option Operation) → of_step s step ≡ Some (record { page = r; kind = k; operation = o }) → IsWhole s o
+lost-whole s (Ok done) r k o needs = cc
+lost-whole s (Err trap) r k o needs = grind arith
+
 packet-whole : (s : GuestState) (shares : Bool) (packet : InHand) (q r : ℕ) (k : MoveKind) (o : Option Operation) → s.hand ≡ Some packet → for_packet s shares packet q ≡ Some (record { page = r; kind = k; operation = o }) → IsWhole s o
 packet-whole s shares packet q r k o hand needs = grind (arith, eqb-true (length packet.bytes) 4096)
 
@@ -56,8 +62,10 @@ asks-whole s (Plan p) wish target o k asks = grind arith
 asks-whole s (Due p) wish target o k asks = grind arith
 asks-whole s (Step p) wish target o k asks =
     let m = joined (content s) asks.v in
-    needed-whole s asks.v asks.shares (at_hand s asks.v) wish.page wish.kind (Some o)
-    (λ b q is. blocks_same s asks.v b (subst (Reads m.pages (length m.disk)) is (next-in m asks.v)).0)
+    ⊎_elim
+    (needed-whole s asks.v asks.shares (at_hand s asks.v) wish.page wish.kind (Some o)
+    (λ b q is. blocks_same s asks.v b (subst (Reads m.pages (length m.disk)) is (next-in m asks.v)).0))
+    (lost-whole s (step_on s p.0 asks.v) wish.page wish.kind (Some o))
     asks.needs
   where
     blocks_same : (s : GuestState) (v b : ℕ) → b < length (joined (content s) v).disk → b < length s.disk

@@ -145,7 +145,7 @@ by-failure-alone s t (PacketIn k) c on row due = absurd (same-closing s t c on (
 by-failure-alone s t (Discard k) c on row due = absurd (same-closing s t c on (ap (λ (x : GuestState). x.closing) row.after) due)
 by-failure-alone s t (Skip k) c on row due = absurd (same-closing s t c on (ap (λ (x : GuestState). x.closing) row.after) due)
 by-failure-alone s t (CellFails d) c on row due = let r = fails-used s t d.0 c on row due in (ap (λ (k : ℕ). failure_of k) r.0, r.1)
-by-failure-alone s t (Ending end) c on row due = absurd (same-closing s t c on (ap (λ (x : GuestState). x.closing) row.after) due)
+by-failure-alone s t (Ending end) c on row due = absurd (none-some (end_by c) (sym (ap (λ (x : GuestState). x.closing) row.after) ∙ is-noted t c due))
 
 -- an end that has come, or is due
 not-on : (s : GuestState) (end : End) → EndsAs s end → GoesOn s → ⊥
@@ -283,7 +283,7 @@ ended-by s t e c on row is = goes e row
         owes (CellFailed d) may at = may.1 ∙ (sym at ∙ is)
 
 -- a row after which it is due, and before which it wasn't, is the failure
-the-failure : (s t : GuestState) (e : Event) (c : ℕ) → (EndsAs s (end_by c) → ⊥) → Row s e t → EndsAs t (end_by c) → GoesOn s × (e ≡ failure_of c) × (uses s c ≡ true)
+pub the-failure : (s t : GuestState) (e : Event) (c : ℕ) → (EndsAs s (end_by c) → ⊥) → Row s e t → EndsAs t (end_by c) → GoesOn s × (e ≡ failure_of c) × (uses s c ≡ true)
 the-failure s t e c not_yet row so = goes s.end refl
   where
     the : (x y : End) → Some x ≡ Some y → x ≡ y

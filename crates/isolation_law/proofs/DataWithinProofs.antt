@@ -1,5 +1,5 @@
 -- The page of a step's data access is one of the guest's.
-use Rattle.std.proofs.Common.{◌≡◌, ℕ, ◌<◌, Bool, true, false, if◌then◌else◌, Some, None, Ok, length, ap, sym, subst}
+use Rattle.std.proofs.Common.{◌≡◌, ℕ, ◌<◌, true, false, if◌then◌else◌, Ok, length, sym, subst}
 use Rattle.base_words.specs.declared.effect.Request.{Request}
 use Rattle.base_words.specs.declared.effect.Request.TheVariants as asks
 use Rattle.base_words.specs.Halves.{Half}
@@ -8,7 +8,7 @@ use Rattle.private_machine.specs.Reaching.{Sight, Wanted, Reached, at_half, want
 use Rattle.private_machine.specs.HardwareStep.{Done}
 use Rattle.private_machine.specs.DirectAccess.{link_of, line_at, load_told, store_told, data_told, data_reached}
 use Rattle.private_machine.specs.Links.{is_linked}
-use Rattle.isolation_law.specs.GuestState.{GuestState, processor, vcpu_of}
+use Rattle.isolation_law.specs.GuestState.{GuestState, vcpu_of}
 use Rattle.isolation_law.specs.Coherence.{Coherent}
 use Rattle.isolation_law.specs.DirectStep.{with_inputs, sight, held_of}
 use Rattle.isolation_law.specs.Traps.{step_on}

@@ -48,7 +48,7 @@ through-ok : (x : Sight) (w : Wanted) (o : Option Half) (at : Reached) → throu
 through-ok x w None at e = cc
 through-ok x w (Some g) at e = by (x.lost g.frame) (is_store w.purpose) g.writable refl e
   where
-    by : (lost store : Bool) (b : Bool) → g.writable ≡ b → (if lost then Err (DeadFrame g.frame) else if store && not b then Err NoStore else Ok (at_half g)) ≡ Ok at → (h : Half) × (Some g ≡ Some h) × (at ≡ at_half h) × (store ≡ true → h.writable ≡ true)
+    by : (lost store : Bool) (b : Bool) → g.writable ≡ b → (if lost then Err (DeadFrame (at_half g)) else if store && not b then Err NoStore else Ok (at_half g)) ≡ Ok at → (h : Half) × (Some g ≡ Some h) × (at ≡ at_half h) × (store ≡ true → h.writable ≡ true)
     by true store b is e = cc
     by false true true is e = (g, refl, sym (ok-same (at_half g) at e), λ yes. is)
     by false true false is e = cc

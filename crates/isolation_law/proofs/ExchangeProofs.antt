@@ -12,11 +12,11 @@ use Rattle.private_machine.specs.DirectAccess.{data_reached}
 use Rattle.private_machine.specs.PageMove.{target_of, left_by, named_by, begun, finished, taken, spares_finished, spares_taken}
 use Rattle.isolation_law.proofs.Stepping.{stored, stored_if, accessed, ticked, told, steps-after}
 use Rattle.base_words.specs.declared.trap.DataAccess.TheVariants as at_data
-use Rattle.private_machine.specs.PageMove.{target_in, held_for}
+use Rattle.private_machine.specs.PageMove.{target_in, held_for, gained, dropped, dropped_taken}
 use Rattle.isolation_law.specs.CellUse.{held}
 use Rattle.isolation_law.specs.DirectStep.{with_inputs, data_noted}
 use Rattle.isolation_law.specs.EndRows.{CellFailsIn, LetsGo, Ends}
-use Rattle.isolation_law.specs.Exchange.{count_of, Exchanged, gained, dropped, dropped_taken}
+use Rattle.isolation_law.specs.Exchange.{count_of, Exchanged}
 use Rattle.isolation_law.specs.GuestState.{GuestState, page, with_page}
 use Rattle.isolation_law.specs.LoadRows.{Loads, Unloads, Acks}
 use Rattle.isolation_law.specs.MoveRows.{Fits, Begins, Finishes}

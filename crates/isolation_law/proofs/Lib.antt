@@ -61,4 +61,10 @@ mod ServeProofs
 mod TrapTells
 mod TrapWords
 mod ReadOnlyProofs
+mod StoreActs
 mod DataWithinProofs
+mod LostProofs
+mod FailureProofs
+mod TellsProofs
+mod DueProofs
+mod UseProofs

@@ -13,8 +13,8 @@ use Rattle.private_machine.specs.Backing.{Copy, TakesShared, Move, Page, no_page
 use Rattle.isolation_law.specs.Surroundings.{Surroundings, cell_of_frame, cell_of_processor}
 use Rattle.isolation_law.specs.Parts.{Processor}
 use Rattle.isolation_law.specs.GuestState.{GuestState, idle, page, processor, is_dead}
-use Rattle.private_machine.specs.PageMove.{held_for}
-use Rattle.isolation_law.specs.CellUse.{held, lies_in, loaded_in, uses}
+use Rattle.private_machine.specs.PageMove.{used_for}
+use Rattle.isolation_law.specs.CellUse.{used_frames, lies_in, loaded_in, uses}
 use Rattle.isolation_law.specs.Phases.{all_halted, owed, lingers, GoesOn}
 use Rattle.isolation_law.specs.StepAct.{at_hand}
 use Rattle.isolation_law.specs.StepRows.{Emulates, EndsRead}
@@ -63,17 +63,17 @@ Has-append : (cs ds : List Copy) (x : Copy) → Has (cs ++ ds) x → Has cs x �
 Has-append [] ds x has = inr has
 Has-append (c ∷ cs) ds x has = ⊎_elim (λ (is : c ≡ x). inl (inl is)) (λ later. ⊎_elim (λ (y : Has cs x). inl (inr y)) (λ (y : Has ds x). inr y) (Has-append cs ds x later)) has
 
-pub Has-flat : (gs : List Page) (q : ℕ) (x : Copy) → q < length gs → Has (held_for (get_or gs q no_page)) x → Has (flat_map held_for gs) x
-Has-flat [] q x lt has = absurd (omega arith)
-Has-flat (g ∷ gs) zero x lt has = Has-left (held_for g) (flat_map held_for gs) x has
-Has-flat (g ∷ gs) (suc q) x lt has = Has-right (held_for g) (flat_map held_for gs) x (Has-flat gs q x (omega arith) has)
+pub Has-flat : (frames_of : Page → List Copy) (gs : List Page) (q : ℕ) (x : Copy) → q < length gs → Has (frames_of (get_or gs q no_page)) x → Has (flat_map frames_of gs) x
+Has-flat frames_of [] q x lt has = absurd (omega arith)
+Has-flat frames_of (g ∷ gs) zero x lt has = Has-left (frames_of g) (flat_map frames_of gs) x has
+Has-flat frames_of (g ∷ gs) (suc q) x lt has = Has-right (frames_of g) (flat_map frames_of gs) x (Has-flat frames_of gs q x (omega arith) has)
 
-flat-has : (gs : List Page) (x : Copy) → Has (flat_map held_for gs) x → (q : ℕ) × (q < length gs) × Has (held_for (get_or gs q no_page)) x
+flat-has : (gs : List Page) (x : Copy) → Has (flat_map used_for gs) x → (q : ℕ) × (q < length gs) × Has (used_for (get_or gs q no_page)) x
 flat-has [] x has = absurd has
 flat-has (g ∷ gs) x has = ⊎_elim
-    (λ (y : Has (held_for g) x). (0, omega arith, y))
-    (λ (y : Has (flat_map held_for gs) x). let r = flat-has gs x y in let lt = r.1 in (suc r.0, omega arith, r.2))
-    (Has-append (held_for g) (flat_map held_for gs) x has)
+    (λ (y : Has (used_for g) x). (0, omega arith, y))
+    (λ (y : Has (flat_map used_for gs) x). let r = flat-has gs x y in let lt = r.1 in (suc r.0, omega arith, r.2))
+    (Has-append (used_for g) (flat_map used_for gs) x has)
 
 -- processors on which something is loaded
 loaded-has : (w : Surroundings) (cell k : ℕ) (ps : List Processor) → loaded_in w cell k ps ≡ true → (p : ℕ) × (v : ℕ) × ((get_or ps p idle).loaded ≡ Some v) × (cell_of_processor w (k + p) ≡ cell)
@@ -108,10 +108,10 @@ has-loaded w cell k (x ∷ ps) (suc p) v is at =
     let here : k + 1 + p ≡ k + suc p = omega arith in
     or_right (is_some x.loaded && (cell_of_processor w k == cell)) (loaded_in w cell (k + 1) ps) (has-loaded w cell (k + 1) ps p v is (ap (cell_of_processor w) here ∙ at))
 
-frame-used : (s : GuestState) (x : Copy) → s.end ≡ None → Has (held s) x → uses s (cell_of_frame s.around x.frame) ≡ true
+frame-used : (s : GuestState) (x : Copy) → s.end ≡ None → Has (used_frames s) x → uses s (cell_of_frame s.around x.frame) ≡ true
 frame-used s x on has =
     let cell = cell_of_frame s.around x.frame in
-    let any = any-true (lies_in s.around cell) (held s) x has (eq-eqb cell cell refl) in
+    let any = any-true (lies_in s.around cell) (used_frames s) x has (eq-eqb cell cell refl) in
     rw (on, any) refl
 
 processor-used : (s : GuestState) (p v : ℕ) → s.end ≡ None → (processor s p).loaded ≡ Some v → uses s (cell_of_processor s.around p) ≡ true
@@ -119,7 +119,7 @@ processor-used s p v on is =
     let cell = cell_of_processor s.around p in
     let at : 0 + p ≡ p = omega arith in
     let any = has-loaded s.around cell 0 s.processors p v is (ap (cell_of_processor s.around) at) in
-    rw on (or_right (list_any (lies_in s.around cell) (held s)) (loaded_in s.around cell 0 s.processors) any)
+    rw on (or_right (list_any (lies_in s.around cell) (used_frames s)) (loaded_in s.around cell 0 s.processors) any)
 
 -- with these cells taken as failed, nothing that is used lies in one
 abbrev pub AliveWith : GuestState → List Bool → Type 0
@@ -127,29 +127,29 @@ AliveWith s dead = LiveParts s.around dead s.pages s.spares s.processors
 
 unused-alive : (s : GuestState) (dead : List Bool) → s.end ≡ None → ((c : ℕ) → uses s c ≡ true → get_or dead c false ≡ false) → AliveWith s dead
 unused-alive s dead on live = record {
-  on_pages = λ q f lt has. let r = frame-copy (held_for (page s q)) f has in
-      subst (Lives s.around dead) r.2 (copy r.0 (Has-left (flat_map held_for s.pages) s.spares r.0 (Has-flat s.pages q r.0 lt r.1)));
-  on_spares = λ f has. let r = frame-copy s.spares f has in subst (Lives s.around dead) r.2 (copy r.0 (Has-right (flat_map held_for s.pages) s.spares r.0 r.1));
+  on_pages = λ q f lt has. let r = frame-copy (used_for (page s q)) f has in
+      subst (Lives s.around dead) r.2 (copy r.0 (Has-left (flat_map used_for s.pages) s.spares r.0 (Has-flat used_for s.pages q r.0 lt r.1)));
+  on_spares = λ f has. let r = frame-copy s.spares f has in subst (Lives s.around dead) r.2 (copy r.0 (Has-right (flat_map used_for s.pages) s.spares r.0 r.1));
   on_processors = λ p v is. live (cell_of_processor s.around p) (processor-used s p v on is);
 }
   where
-    copy : (x : Copy) → Has (held s) x → Lives s.around dead x.frame
+    copy : (x : Copy) → Has (used_frames s) x → Lives s.around dead x.frame
     copy x has = live (cell_of_frame s.around x.frame) (frame-used s x on has)
 
 pub alive-unused : (t : GuestState) (dead : List Bool) (c : ℕ) → AliveWith t dead → get_or dead c false ≡ true → uses t c ≡ true → ⊥
 alive-unused t dead c co failed used =
-    let some = (and_parts (is_none t.end) (list_any (lies_in t.around c) (held t) || loaded_in t.around c 0 t.processors) used).1 in
-    by (list_any (lies_in t.around c) (held t)) refl some
+    let some = (and_parts (is_none t.end) (list_any (lies_in t.around c) (used_frames t) || loaded_in t.around c 0 t.processors) used).1 in
+    by (list_any (lies_in t.around c) (used_frames t)) refl some
   where
-    copy : (x : Copy) → Has (held t) x → Lives t.around dead x.frame
+    copy : (x : Copy) → Has (used_frames t) x → Lives t.around dead x.frame
     copy x has = ⊎_elim
-        (λ (y : Has (flat_map held_for t.pages) x). let r = flat-has t.pages x y in co.on_pages r.0 x.frame r.1 (copy-frame (held_for (page t r.0)) x r.2))
+        (λ (y : Has (flat_map used_for t.pages) x). let r = flat-has t.pages x y in co.on_pages r.0 x.frame r.1 (copy-frame (used_for (page t r.0)) x r.2))
         (λ (y : Has t.spares x). co.on_spares x.frame (copy-frame t.spares x y))
-        (Has-append (flat_map held_for t.pages) t.spares x has)
+        (Has-append (flat_map used_for t.pages) t.spares x has)
 
-    by : (b : Bool) → list_any (lies_in t.around c) (held t) ≡ b → (b || loaded_in t.around c 0 t.processors) ≡ true → ⊥
+    by : (b : Bool) → list_any (lies_in t.around c) (used_frames t) ≡ b → (b || loaded_in t.around c 0 t.processors) ≡ true → ⊥
     by true is some =
-        let r = any-has (lies_in t.around c) (held t) is in
+        let r = any-has (lies_in t.around c) (used_frames t) is in
         let at : cell_of_frame t.around r.0.frame ≡ c = eqb-true (cell_of_frame t.around r.0.frame) c r.2 in
         true≢false (sym failed ∙ ap (λ (k : ℕ). get_or dead k false) (sym at) ∙ copy r.0 r.1)
     by false is some =
@@ -171,7 +171,7 @@ pub failed-same : (c d : ℕ) → Some (failed c) ≡ Some (failed d) → c ≡ 
 failed-same c d e = ap cell_in e
 
 used-ends : (s : GuestState) (c : ℕ) → uses s c ≡ true → s.end ≡ None
-used-ends s c used = by s.end (and_parts (is_none s.end) (list_any (lies_in s.around c) (held s) || loaded_in s.around c 0 s.processors) used).0
+used-ends s c used = by s.end (and_parts (is_none s.end) (list_any (lies_in s.around c) (used_frames s) || loaded_in s.around c 0 s.processors) used).0
   where
     by : (o : Option End) → is_none o ≡ true → o ≡ None
     by None e = refl
@@ -312,8 +312,12 @@ row-live s t (CellFails c) live row = ⊎_elim
     (λ (late : lingers s.end ≡ true). late-live s t late (ap (λ (x : GuestState). x.end) row.after)) row.phase
 row-live s t (Ending end) live row = ended-live t end (ap (λ (x : GuestState). x.end) row.after)
 
-pub held-lives : (s : GuestState) (x : Copy) → Alive s → Has (held s) x → is_dead s (cell_of_frame s.around x.frame) ≡ false
-held-lives s x co has = ⊎_elim
-    (λ (y : Has (flat_map held_for s.pages) x). let r = flat-has s.pages x y in co.on_pages r.0 x.frame r.1 (copy-frame (held_for (page s r.0)) x r.2))
+pub used-lives : (s : GuestState) (x : Copy) → Alive s → Has (used_frames s) x → is_dead s (cell_of_frame s.around x.frame) ≡ false
+used-lives s x co has = ⊎_elim
+    (λ (y : Has (flat_map used_for s.pages) x). let r = flat-has s.pages x y in co.on_pages r.0 x.frame r.1 (copy-frame (used_for (page s r.0)) x r.2))
     (λ (y : Has s.spares x). co.on_spares x.frame (copy-frame s.spares x y))
-    (Has-append (flat_map held_for s.pages) s.spares x has)
+    (Has-append (flat_map used_for s.pages) s.spares x has)
+
+-- the master of a page is used
+pub master-lives : (s : GuestState) (q : ℕ) → Alive s → q < length s.pages → is_dead s (cell_of_frame s.around (page s q).master.frame) ≡ false
+master-lives s q co lt = co.on_pages q (page s q).master.frame lt (inl refl)

@@ -4,7 +4,7 @@ use Rattle.std.specs.Prelude.{option_map, option_to_list, option_and_then, remov
 use Rattle.base_words.specs.Membership.{Has}
 use Rattle.private_machine.specs.Backing.{Copy, Change, Migrates, Replicates, Collapses, Breaks, TakesShared, GivesShared, Move, Page, copies, with_bytes, stored_in, stored_through, no_page}
 use Rattle.private_machine.specs.PageMove.{target_of, acknowledged, left_by, begun, finished, spares_finished, spares_taken}
-use Rattle.private_machine.specs.PageMove.{target_in, held_for}
+use Rattle.private_machine.specs.PageMove.{target_in, held_for, used_for}
 use Rattle.isolation_law.specs.GuestState.{GuestState, idle}
 use Rattle.isolation_law.specs.Parts.{Processor}
 use Rattle.isolation_law.specs.Surroundings.{Surroundings, cell_of_frame, cell_of_processor}
@@ -19,9 +19,9 @@ HasFrame cs f = Has (map (λ c. c.frame) cs) f
 abbrev pub Lives : Surroundings → List Bool → ℕ → Type 0
 Lives w dead f = get_or dead (cell_of_frame w f) false ≡ false
 
--- all frames of pages and all spares, and each processor on which something is loaded, are of cells that live
+-- all frames that pages use and all spares, and each processor on which something is loaded, are of cells that live
 pub record LiveParts (w : Surroundings) (dead : List Bool) (pages : List Page) (spares : List Copy) (processors : List Processor) : Type 0 where
-  pub on_pages : (q f : ℕ) → q < length pages → HasFrame (held_for (get_or pages q no_page)) f → Lives w dead f
+  pub on_pages : (q f : ℕ) → q < length pages → HasFrame (used_for (get_or pages q no_page)) f → Lives w dead f
   pub on_spares : (f : ℕ) → HasFrame spares f → Lives w dead f
   pub on_processors : (p v : ℕ) → (get_or processors p idle).loaded ≡ Some v → get_or dead (cell_of_processor w p) false ≡ false
 
@@ -58,10 +58,10 @@ stored_in-frames (c ∷ cs) frame o w = elim (c.frame == frame) as (λ b. map (�
 frames-append : (cs ds es : List Copy) → map (λ c. c.frame) cs ≡ map (λ c. c.frame) ds → map (λ c. c.frame) (cs ++ es) ≡ map (λ c. c.frame) (ds ++ es)
 frames-append cs ds es e = map-append (λ (c : Copy). c.frame) cs es ∙ ap (λ (l : List ℕ). l ++ map (λ c. c.frame) es) e ∙ sym (map-append (λ (c : Copy). c.frame) ds es)
 
-pub stored-frames : (g : Page) (frame o w : ℕ) → map (λ c. c.frame) (held_for (stored_through g frame o w)) ≡ map (λ c. c.frame) (held_for g)
+pub stored-frames : (g : Page) (frame o w : ℕ) → map (λ c. c.frame) (used_for (stored_through g frame o w)) ≡ map (λ c. c.frame) (used_for g)
 stored-frames g frame o w = by (g.master.frame == frame)
   where
-    by : (b : Bool) → map (λ c. c.frame) (held_for (if b then record g { master = with_bytes (with_word g.master.bytes o w) g.master } else record g { replicas = stored_in g.replicas frame o w })) ≡ map (λ c. c.frame) (held_for g)
+    by : (b : Bool) → map (λ c. c.frame) (used_for (if b then record g { master = with_bytes (with_word g.master.bytes o w) g.master } else record g { replicas = stored_in g.replicas frame o w })) ≡ map (λ c. c.frame) (used_for g)
     by true = refl
     by false = ap (λ (l : List ℕ). g.master.frame ∷ l) (frames-append (stored_in g.replicas frame o w) g.replicas (option_to_list (option_and_then target_in g.move)) (stored_in-frames g.replicas frame o w))
 
@@ -72,7 +72,10 @@ left-targets p (Some m) = refl
 pub left-held : (p : ℕ) (g : Page) → held_for (left_by p g) ≡ held_for g
 left-held p g = ap (λ (t : Option Copy). copies g ++ option_to_list t) (left-targets p g.move)
 
-pub begun-frames : (change : Change) (g : Page) (f : ℕ) → HasFrame (held_for (begun change g)) f → HasFrame (held_for g) f ⊎ HasFrame (option_to_list (target_of change)) f
+pub left-used : (p : ℕ) (g : Page) → used_for (left_by p g) ≡ used_for g
+left-used p g = left-held p g
+
+pub begun-frames : (change : Change) (g : Page) (f : ℕ) → HasFrame (used_for (begun change g)) f → HasFrame (used_for g) f ⊎ HasFrame (option_to_list (target_of change)) f
 begun-frames change g f has = ⊎_elim
     (λ (x : HasFrame (copies g) f). inl (HasFrame-left (copies g) (option_to_list (option_and_then target_in g.move)) f x))
     (λ (x : HasFrame (option_to_list (target_of change)) f). inr x)
@@ -82,7 +85,13 @@ begun-frames change g f has = ⊎_elim
 pub open-held : (g : Page) (m : Move) → g.move ≡ Some m → held_for g ≡ copies g ++ option_to_list (target_of m.change)
 open-held g m e = ap (λ (o : Option Move). copies g ++ option_to_list (option_and_then target_in o)) e
 
-finished-of : (change : Change) (g : Page) (f : ℕ) → HasFrame (held_for (finished change g)) f → HasFrame (copies g ++ option_to_list (target_of change)) f
+open-used : (g : Page) (m : Move) → g.move ≡ Some m → used_for g ≡ copies g ++ option_to_list (target_of m.change)
+open-used g m e = open-held g m e
+
+pub target-used : (g : Page) (m : Move) (f : ℕ) → g.move ≡ Some m → HasFrame (option_to_list (target_of m.change)) f → HasFrame (used_for g) f
+target-used g m f e has = subst (λ (l : List Copy). HasFrame l f) (sym (open-used g m e)) (HasFrame-right (copies g) (option_to_list (target_of m.change)) f has)
+
+finished-of : (change : Change) (g : Page) (f : ℕ) → HasFrame (used_for (finished change g)) f → HasFrame (copies g ++ option_to_list (target_of change)) f
 finished-of (Migrates target) g f has = ⊎_elim
     (λ (is : target.frame ≡ f). HasFrame-right (copies g) (target ∷ []) f (inl is))
     (λ later. ⊎_elim (λ (x : HasFrame g.replicas f). HasFrame-left (copies g) (target ∷ []) f (inr x)) (λ none. absurd none) (HasFrame-append g.replicas [] f later))
@@ -105,13 +114,13 @@ finished-of (Breaks target) g f has = ⊎_elim
 finished-of (TakesShared target) g f has = ⊎_elim (λ (x : HasFrame (copies g) f). HasFrame-left (copies g) (target ∷ []) f x) (λ none. absurd none) (HasFrame-append (copies g) [] f has)
 finished-of (GivesShared target) g f has = ⊎_elim (λ (is : g.master.frame ≡ f). HasFrame-left (copies g) (target ∷ []) f (inl is)) (λ none. absurd none) has
 
-pub finished-frames : (g : Page) (m : Move) (f : ℕ) → g.move ≡ Some m → HasFrame (held_for (finished m.change g)) f → HasFrame (held_for g) f
-finished-frames g m f e has = subst (λ (l : List Copy). HasFrame l f) (sym (open-held g m e)) (finished-of m.change g f has)
+pub finished-frames : (g : Page) (m : Move) (f : ℕ) → g.move ≡ Some m → HasFrame (used_for (finished m.change g)) f → HasFrame (used_for g) f
+finished-frames g m f e has = subst (λ (l : List Copy). HasFrame l f) (sym (open-used g m e)) (finished-of m.change g f has)
 
 -- the spares that join are frames of the page
-pub spares-frames : (g : Page) (m : Move) (spares : List Copy) (f : ℕ) → g.move ≡ Some m → HasFrame (spares_finished m.change spares) f → HasFrame spares f ⊎ HasFrame (held_for g) f
+pub spares-frames : (g : Page) (m : Move) (spares : List Copy) (f : ℕ) → g.move ≡ Some m → HasFrame (spares_finished m.change spares) f → HasFrame spares f ⊎ HasFrame (used_for g) f
 spares-frames g m spares f e has = ⊎_elim (λ (x : HasFrame spares f). inl x)
-    (λ (x : HasFrame (option_to_list (target_of m.change)) f). inr (subst (λ (l : List Copy). HasFrame l f) (sym (open-held g m e)) (HasFrame-right (copies g) (option_to_list (target_of m.change)) f x)))
+    (λ (x : HasFrame (option_to_list (target_of m.change)) f). inr (target-used g m f e x))
     (by m.change has)
   where
     by : (change : Change) → HasFrame (spares_finished change spares) f → HasFrame spares f ⊎ HasFrame (option_to_list (target_of change)) f
@@ -122,19 +131,19 @@ spares-frames g m spares f e has = ⊎_elim (λ (x : HasFrame spares f). inl x)
     by (TakesShared target) has = inl has
     by (GivesShared target) has = HasFrame-append spares (target ∷ []) f has
 
-pub spares-taken-frames : (g : Page) (spares : List Copy) (f : ℕ) → HasFrame (spares_taken g spares) f → HasFrame spares f ⊎ HasFrame (held_for g) f
+pub spares-taken-frames : (g : Page) (spares : List Copy) (f : ℕ) → HasFrame (spares_taken g spares) f → HasFrame spares f ⊎ HasFrame (used_for g) f
 spares-taken-frames g spares f has = by g.shared has
   where
-    by : (b : Bool) → HasFrame (if b then spares else spares ++ g.master ∷ []) f → HasFrame spares f ⊎ HasFrame (held_for g) f
+    by : (b : Bool) → HasFrame (if b then spares else spares ++ g.master ∷ []) f → HasFrame spares f ⊎ HasFrame (used_for g) f
     by true has = inl has
     by false has = ⊎_elim (λ (x : HasFrame spares f). inl x) (λ (x : HasFrame (g.master ∷ []) f). ⊎_elim (λ (is : g.master.frame ≡ f). inr (inl is)) (λ none. absurd none) x) (HasFrame-append spares (g.master ∷ []) f has)
 
 -- one part is replaced
 pub live-page : (w : Surroundings) (dead : List Bool) (pages : List Page) (spares : List Copy) (processors : List Processor) (q : ℕ) (new : Page) → LiveParts w dead pages spares processors
-    → ((f : ℕ) → q < length pages → HasFrame (held_for new) f → Lives w dead f) → LiveParts w dead (set pages q new) spares processors
+    → ((f : ℕ) → q < length pages → HasFrame (used_for new) f → Lives w dead f) → LiveParts w dead (set pages q new) spares processors
 live-page w dead pages spares processors q new co news = record {
   on_pages = λ r f lt. let within : r < length pages = rw length-set at lt in
-      at_place (λ (k : ℕ) (g : Page). k < length pages → HasFrame (held_for g) f → Lives w dead f) pages q new no_page r (λ there within. news f there) (λ other within. co.on_pages r f within) within;
+      at_place (λ (k : ℕ) (g : Page). k < length pages → HasFrame (used_for g) f → Lives w dead f) pages q new no_page r (λ there within. news f there) (λ other within. co.on_pages r f within) within;
   on_spares = co.on_spares;
   on_processors = co.on_processors;
 }

@@ -1,17 +1,17 @@
 -- A row other than a failure leaves all that a guest uses in cells that live, where it was.
 use Rattle.base_words.specs.declared.trap.DataAccess.{DataAccess}
-use Rattle.std.proofs.Common.{◌≡◌, ℕ, ◌/◌, ◌<◌, Bool, true, false, inl, ⊎_elim, Option, Some, None, List, [], ◌∷◌, length, map, set, sym, subst, arith}
+use Rattle.std.proofs.Common.{◌≡◌, ℕ, ◌/◌, ◌<◌, Bool, true, false, inl, ⊎_elim, Option, Some, None, List, [], length, map, set, sym, subst, arith}
 use Rattle.std.proofs.lemmas.List.{get_or-map, length-map}
 use Rattle.std.specs.Prelude.{option_to_list}
 use Rattle.base_words.specs.declared.regs.Regs.{Regs}
 use Rattle.private_machine.specs.Reaching.{Reached}
 use Rattle.base_words.specs.Membership.{Has}
-use Rattle.private_machine.specs.Backing.{Copy, Change, Migrates, Replicates, Collapses, Breaks, TakesShared, GivesShared, Move, Page, copies, stored_through, with_first, no_page}
+use Rattle.private_machine.specs.Backing.{Copy, Change, Migrates, Replicates, Collapses, Breaks, TakesShared, GivesShared, Move, Page, stored_through, with_first, no_page}
 use Rattle.private_machine.specs.DirectAccess.{data_reached}
 use Rattle.private_machine.specs.PageMove.{target_of, left_by, named_by, begun, finished, taken, spares_taken, spares_finished}
 use Rattle.isolation_law.proofs.Stepping.{stored, stored_if, accessed, ticked, told, steps-after}
 use Rattle.base_words.specs.declared.trap.DataAccess.TheVariants as at_data
-use Rattle.private_machine.specs.PageMove.{held_for}
+use Rattle.private_machine.specs.PageMove.{used_for}
 use Rattle.isolation_law.specs.DirectStep.{with_inputs, data_noted}
 use Rattle.isolation_law.specs.EndRows.{Ends}
 use Rattle.isolation_law.specs.GuestState.{GuestState, idle, page, with_page}
@@ -26,14 +26,14 @@ use Rattle.base_words.specs.declared.events.End.{End}
 use Rattle.base_words.specs.declared.moves.By.{By}
 use Rattle.base_words.specs.declared.moves.MoveKind.{MoveKind}
 use Rattle.isolation_law.proofs.LeaveProofs.{moving_within}
-use Rattle.isolation_law.proofs.LiveParts.{HasFrame, Lives, LiveParts, Alive, HasFrame-right, HasFrame-remove, stored-frames, left-held, begun-frames, open-held, finished-frames, spares-frames, spares-taken-frames, live-page, live-spares, live-processor}
+use Rattle.isolation_law.proofs.LiveParts.{HasFrame, Lives, LiveParts, Alive, HasFrame-remove, stored-frames, left-used, begun-frames, target-used, finished-frames, spares-frames, spares-taken-frames, live-page, live-spares, live-processor}
 
 -- what is used by a living guest lives
-pub page-lives : (s : GuestState) (q : ℕ) (new : Page) → Alive s → ((f : ℕ) → HasFrame (held_for new) f → HasFrame (held_for (page s q)) f) → Alive (with_page s q new)
+pub page-lives : (s : GuestState) (q : ℕ) (new : Page) → Alive s → ((f : ℕ) → HasFrame (used_for new) f → HasFrame (used_for (page s q)) f) → Alive (with_page s q new)
 page-lives s q new co less = live-page s.around s.dead s.pages s.spares s.processors q new co (λ f there has. co.on_pages q f there (less f has))
 
 left-lives : (s : GuestState) (p q : ℕ) → Alive s → Alive (with_page s q (left_by p (page s q)))
-left-lives s p q co = page-lives s q (left_by p (page s q)) co (λ f has. subst (λ (l : List Copy). HasFrame l f) (left-held p (page s q)) has)
+left-lives s p q co = page-lives s q (left_by p (page s q)) co (λ f has. subst (λ (l : List Copy). HasFrame l f) (left-used p (page s q)) has)
 
 pub loads-live : (s t : GuestState) (p v : ℕ) → Alive s → Loads s p v t → Alive t
 loads-live s t p v co row = subst Alive (sym row.after) (live-processor s.around s.dead s.pages s.spares s.processors p (record { loaded = Some v; tlb = [] }) co (λ u is. row.lives))
@@ -48,8 +48,8 @@ unloads-live s t p co row = subst Alive (sym row.after) (live-processor s.around
     all = record {
       on_pages = λ q f lt has.
           let within : q < length s.pages = rw length-map at lt in
-          co.on_pages q f within (subst (λ (l : List Copy). HasFrame l f) (left-held p (page s q))
-          (subst (λ (g : Page). HasFrame (held_for g) f) (get_or-map (left_by p) s.pages q no_page no_page within) has));
+          co.on_pages q f within (subst (λ (l : List Copy). HasFrame l f) (left-used p (page s q))
+          (subst (λ (g : Page). HasFrame (used_for g) f) (get_or-map (left_by p) s.pages q no_page no_page within) has));
       on_spares = co.on_spares;
       on_processors = co.on_processors;
     }
@@ -110,16 +110,16 @@ taken-live s q target waiting co is_open =
     let there = moving_within s.pages q m is_open in
     let co1 : Alive (with_page s q (taken target g)) = page-lives s q (taken target g) co
     (λ f has. ⊎_elim
-    (λ (is : target.frame ≡ f). subst (λ (l : List Copy). HasFrame l f) (sym (open-held g m is_open)) (HasFrame-right (copies g) (target ∷ []) f (inl is)))
+    (λ (is : target.frame ≡ f). target-used g m f is_open (inl is))
     (λ none. absurd none) has) in
     live-spares s.around s.dead (set s.pages q (taken target g)) s.spares s.processors (spares_taken g s.spares) co1
-    (λ f has. ⊎_elim (λ (x : HasFrame s.spares f). co.on_spares f x) (λ (x : HasFrame (held_for g) f). co.on_pages q f there x) (spares-taken-frames g s.spares f has))
+    (λ f has. ⊎_elim (λ (x : HasFrame s.spares f). co.on_spares f x) (λ (x : HasFrame (used_for g) f). co.on_pages q f there x) (spares-taken-frames g s.spares f has))
 
 pub begins-live : (s t : GuestState) (q : ℕ) (kind : MoveKind) (node : ℕ) (by : By) → Alive s → Begins s q kind node by t → Alive t
 begins-live s t q kind node by co row =
     let g = page s q in
     let co1 = live-page s.around s.dead s.pages s.spares s.processors q (begun row.change g) co
-    (λ f there has. ⊎_elim (λ (x : HasFrame (held_for g) f). co.on_pages q f there x) (λ (x : HasFrame (option_to_list (target_of row.change)) f). target-lives (target_of row.change) f row.lives x) (begun-frames row.change g f has)) in
+    (λ f there has. ⊎_elim (λ (x : HasFrame (used_for g) f). co.on_pages q f there x) (λ (x : HasFrame (option_to_list (target_of row.change)) f). target-lives (target_of row.change) f row.lives x) (begun-frames row.change g f has)) in
     subst Alive (sym row.after) (live-spares s.around s.dead (set s.pages q (begun row.change g)) s.spares s.processors row.rest co1 (λ f has. co.on_spares f (rest row.change f row.fits has)))
   where
     target-lives : (o : Option Copy) (f : ℕ) → LiesAlive s o → HasFrame (option_to_list o) f → Lives s.around s.dead f
@@ -140,7 +140,7 @@ done-live s q m co is_open =
     let there = moving_within s.pages q m is_open in
     let co1 : Alive (with_page s q (finished m.change g)) = page-lives s q (finished m.change g) co (λ f has. finished-frames g m f is_open has) in
     live-spares s.around s.dead (set s.pages q (finished m.change g)) s.spares s.processors (spares_finished m.change s.spares) co1
-    (λ f has. ⊎_elim (λ (x : HasFrame s.spares f). co.on_spares f x) (λ (x : HasFrame (held_for g) f). co.on_pages q f there x) (spares-frames g m s.spares f is_open has))
+    (λ f has. ⊎_elim (λ (x : HasFrame s.spares f). co.on_spares f x) (λ (x : HasFrame (used_for g) f). co.on_pages q f there x) (spares-frames g m s.spares f is_open has))
 
 pub ends-live : (s t : GuestState) (end : End) → Alive s → Ends s end t → Alive t
 ends-live s t end co row = subst Alive (sym row.after) (record { on_pages = λ q f lt has. absurd (below q lt); on_spares = λ f has. absurd has; on_processors = co.on_processors })

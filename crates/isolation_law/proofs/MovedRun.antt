@@ -1,4 +1,5 @@
 -- One run, computed: a page is moved while it is mapped. It shows that these rows can be met.
+use Rattle.base_words.specs.Limits.{most_processors}
 use Rattle.isolation_law.proofs.Filling.{at_head}
 use Rattle.isolation_law.proofs.StartProofs.{all_same}
 use Rattle.isolation_law.specs.LoadRows.{page_left, unloaded}
@@ -94,7 +95,7 @@ idle_everywhere zero same = cc
 idle_everywhere (suc r) same = cc
 
 nobody : (r : ℕ) → slice_index_or no_processors r false ≡ false
-nobody r = all_same 16 r false
+nobody r = all_same most_processors r false
 
 abbrev loaded_first : GuestState → GuestState
 loaded_first s = with_processor s 0 (record { loaded = Some 0; tlb = [] })

@@ -159,7 +159,7 @@ copies_collapses_and_sends rest other =
                     s6,
                     s7,
                     inl refl,
-                    record { goes_on = record { not_ended = refl; owes_no_end = refl }; is_page = lit< tt; rests = refl; change = Collapses; is_kind = refl; operation = None; asked = record { v = 0; runs = record { loaded = refl; running = refl }; shares = true; needs = refl; at_home = refl }; rest = []; fits = refl; lives = tt; after = refl },
+                    record { goes_on = record { not_ended = refl; owes_no_end = refl }; is_page = lit< tt; rests = refl; change = Collapses; is_kind = refl; operation = None; asked = record { v = 0; runs = record { loaded = refl; running = refl }; shares = true; needs = inl refl; at_home = refl }; rest = []; fits = refl; lives = tt; after = refl },
                     (
                       s7,
                       s8,
@@ -179,12 +179,12 @@ copies_collapses_and_sends rest other =
                             s10,
                             s11,
                             inl refl,
-                            inl (record { traps = record { goes_on = record { not_ended = refl; owes_no_end = refl }; runs = record { loaded = refl; running = refl }; may_act = refl; trap = Privileged 0x4200_0002; traps = refl; is_no_access = refl }; shares = false; needs_nothing = refl; after = refl }),
+                            inl (record { traps = record { goes_on = record { not_ended = refl; owes_no_end = refl }; runs = record { loaded = refl; running = refl }; may_act = refl; trap = Privileged 0x4200_0002; traps = refl; is_no_access = refl; kept = refl }; shares = false; needs_nothing = refl; after = refl }),
                             (
                               s11,
                               s12,
                               inl refl,
-                              record { goes_on = record { not_ended = refl; owes_no_end = refl }; is_page = lit< tt; rests = refl; change = GivesShared spare; is_kind = refl; operation = None; asked = record { v = 0; runs = record { loaded = refl; running = refl }; shares = true; needs = refl; at_home = refl }; rest = []; fits = ((λ c has e. ⊎_elim (λ (same : (page s11 0).master ≡ c). four_three (ap (λ x. x.frame) same ∙ e)) (λ later. ⊎_elim (λ (same : (page s11 1).master ≡ c). one_three (ap (λ x. x.frame) same ∙ e)) absurd later) has), refl); lives = refl; after = refl },
+                              record { goes_on = record { not_ended = refl; owes_no_end = refl }; is_page = lit< tt; rests = refl; change = GivesShared spare; is_kind = refl; operation = None; asked = record { v = 0; runs = record { loaded = refl; running = refl }; shares = true; needs = inl refl; at_home = refl }; rest = []; fits = ((λ c has e. ⊎_elim (λ (same : (page s11 0).master ≡ c). four_three (ap (λ x. x.frame) same ∙ e)) (λ later. ⊎_elim (λ (same : (page s11 1).master ≡ c). one_three (ap (λ x. x.frame) same ∙ e)) absurd later) has), refl); lives = refl; after = refl },
                               (
                                 s12,
                                 s13,
@@ -199,7 +199,7 @@ copies_collapses_and_sends rest other =
                                     s14,
                                     s15,
                                     inl refl,
-                                    inl (record { traps = record { goes_on = record { not_ended = refl; owes_no_end = refl }; runs = record { loaded = refl; running = refl }; may_act = refl; trap = DataMiss 0xAE08_0038 send_at; traps = refl; is_no_access = refl }; shares = true; needs_nothing = refl; after = refl }),
+                                    inl (record { traps = record { goes_on = record { not_ended = refl; owes_no_end = refl }; runs = record { loaded = refl; running = refl }; may_act = refl; trap = DataMiss 0xAE08_0038 send_at; traps = refl; is_no_access = refl; kept = refl }; shares = true; needs_nothing = refl; after = refl }),
                                     inl refl,
                                   ),
                                 ),

@@ -1,5 +1,5 @@
 -- A store that the guest grants on memory, and that traps, is into a page that is shared or has replicas.
-use Rattle.std.proofs.Common.{◌≡◌, ◌≢◌, ◌⊎◌, ℕ, ◌/◌, ◌%◌, ◌==◌, if◌then◌else◌, Bool, true, false, not, ◌&&◌, List, Option, Some, None, Result, Ok, Err, refl, sym, ◌∙◌, ap, subst, inl, inr, arith}
+use Rattle.std.proofs.Common.{◌≡◌, ◌≢◌, ◌⊎◌, ℕ, ◌/◌, ◌%◌, ◌==◌, if◌then◌else◌, Bool, true, false, not, ◌&&◌, List, Option, Some, None, Result, Ok, Err, refl, sym, ◌∙◌, ap, subst, inl, inr}
 use Rattle.std.proofs.Common.{⊎_elim, [], length}
 use Rattle.std.proofs.lemmas.Bool.{eqb-true}
 use Rattle.std.specs.Prelude.{find}
@@ -10,7 +10,6 @@ use Rattle.base_words.specs.declared.exception.Use.TheVariants.{Fetch, Load, Sto
 use Rattle.base_words.specs.declared.place.Place.TheVariants.{Memory}
 use Rattle.base_words.specs.declared.regs.Regs.{Regs}
 use Rattle.base_words.specs.declared.tlb.Entry.{Entry}
-use Rattle.base_words.specs.Coprocessor.{in_user_mode}
 use Rattle.base_words.specs.Halves.{Half, is_of}
 use Rattle.base_words.specs.Instruction.{Effect, effect}
 use Rattle.base_words.specs.Membership.{Has}
@@ -19,11 +18,11 @@ use Rattle.base_words.specs.Place.{Segment, Mapped, Direct, Outside, segment, is
 use Rattle.private_machine.specs.Backing.{Page}
 use Rattle.private_machine.specs.OwnStep.{led, is_privileged}
 use Rattle.private_machine.specs.Reaching.{Wanted, Lack, NoRange, NoHalf, DeadFrame, NoStore, Sight, Reached, at_half, wanted, fetch_at, through_half, in_segment, reached}
-use Rattle.private_machine.specs.HardwareStep.{Trap, Line, FetchMiss, ReadOnly, Address, Dead, Privileged, Raised, DataMiss, Done, fetch_trap, data_trap, with_data, accesses, executes, decodes, fetches, hardware_step, word_through}
+use Rattle.private_machine.specs.HardwareStep.{Trap, Line, ReadOnly, Privileged, Done, fetch_trap, data_trap, with_data, accesses, executes, fetches, hardware_step, word_through}
 use Rattle.isolation_law.specs.Given.{IsIn, given}
 use Rattle.isolation_law.specs.GuestState.{GuestState, page, processor, vcpu_of}
 use Rattle.isolation_law.specs.Content.{content}
-use Rattle.isolation_law.specs.Coherence.{HalfInTlb, IsDenied, tlb_of, Coherent}
+use Rattle.isolation_law.specs.Coherence.{HalfInTlb, IsDenied, Coherent}
 use Rattle.isolation_law.specs.DirectStep.{with_inputs, sight}
 use Rattle.isolation_law.specs.Traps.{step_on}
 use Rattle.isolation_law.proofs.DirectProofs.{found-has, is_of-in}
@@ -42,13 +41,13 @@ through-closed : (x : Sight) (w : Wanted) (o : Option Half) → through_half x w
 through-closed x w None e = cc
 through-closed x w (Some h) e = by (x.lost h.frame) (is_store w.purpose) h.writable refl refl e
   where
-    by : (lost store writes : Bool) → is_store w.purpose ≡ store → h.writable ≡ writes → (if lost then Err (DeadFrame h.frame) else if store && not writes then Err NoStore else Ok (at_half h)) ≡ Err NoStore → (g : Half) × (Some h ≡ Some g) × (is_store w.purpose ≡ true) × (g.writable ≡ false)
+    by : (lost store writes : Bool) → is_store w.purpose ≡ store → h.writable ≡ writes → (if lost then Err (DeadFrame (at_half h)) else if store && not writes then Err NoStore else Ok (at_half h)) ≡ Err NoStore → (g : Half) × (Some h ≡ Some g) × (is_store w.purpose ≡ true) × (g.writable ≡ false)
     by true store writes stores is e = cc
     by false true true stores is e = cc
     by false true false stores is e = (h, refl, stores, is)
     by false false writes stores is e = cc
 
-reached-closed : (x : Sight) (w : Wanted) → reached x w ≡ Err NoStore → (h : Half) × Refusing x w h
+pub reached-closed : (x : Sight) (w : Wanted) → reached x w ≡ Err NoStore → (h : Half) × Refusing x w h
 reached-closed x w e = aligned (w.address % w.unit == 0) e
   where
     found : through_half x w (find (is_of (w.address / 4096) x.asid) x.tlb) ≡ Err NoStore → (h : Half) × Refusing x w h
@@ -66,45 +65,66 @@ reached-closed x w e = aligned (w.address % w.unit == 0) e
     aligned true e = by_segment (segment x.user w.address) e
     aligned false e = cc
 
--- a step traps so for its data access alone
-step-closed : (x : Sight) (pages : List Page) (regs : Regs) (word : ℕ) (w : Wanted) → hardware_step x pages regs ≡ Err (ReadOnly word w) → reached x w ≡ Err NoStore
-step-closed x pages regs word w e = line x.line e
+-- what such a trap says: it comes for the data access of an instruction that the guest may do
+pub record Stored (x : Sight) (regs : Regs) (word : ℕ) (w : Wanted) : Type 0 where
+  pub line : x.line ≡ false
+  pub unprivileged : is_privileged word ≡ false
+  pub does : Effect
+  pub effects : effect (decoded word) regs ≡ Ok does
+  pub wants : wanted does.request ≡ Some w
+  pub reach : reached x w ≡ Err NoStore
+
+pub stored : (x : Sight) (pages : List Page) (regs : Regs) (word : ℕ) (w : Wanted) → hardware_step x pages regs ≡ Err (ReadOnly word w) → Stored x regs word w
+stored x pages regs word w e = at-line x.line refl e
   where
-    by-lack : (k : ℕ) (v : Wanted) (lack : Lack) → reached x v ≡ Err lack → ◌≡◌ {A = Result Done Trap} (Err (data_trap k v lack)) (Err (ReadOnly word w)) → reached x w ≡ Err NoStore
-    by-lack k v NoRange is e = cc
-    by-lack k v NoHalf is e = cc
-    by-lack k v (DeadFrame frame) is e = cc
-    by-lack k v NoStore is e = let same : v ≡ w = cc in subst (λ (z : Wanted). reached x z ≡ Err NoStore) same is
+    by-lack : (k : ℕ) (v : Wanted) (does : Effect) (lack : Lack) → x.line ≡ false → is_privileged k ≡ false → effect (decoded k) regs ≡ Ok does → wanted does.request ≡ Some v → reached x v ≡ Err lack
+        → ◌≡◌ {A = Result Done Trap} (Err (data_trap k v lack)) (Err (ReadOnly word w)) → Stored x regs word w
+    by-lack k v does NoRange line free is asks reach e = cc
+    by-lack k v does NoHalf line free is asks reach e = cc
+    by-lack k v does (DeadFrame there) line free is asks reach e = cc
+    by-lack k v does NoStore line free is asks reach e =
+        let same : v ≡ w = cc in
+        let number : k ≡ word = cc in
+        record {
+          line = line;
+          unprivileged = ap is_privileged (sym number) ∙ free;
+          does = does;
+          effects = ap (λ (n : ℕ). effect (decoded n) regs) (sym number) ∙ is;
+          wants = asks ∙ ap Some same;
+          reach = subst (λ (z : Wanted). reached x z ≡ Err NoStore) same reach;
+        }
 
-    reaches : (k : ℕ) (at : Reached) (does : Effect) (v : Wanted) (r : Result Reached Lack) → reached x v ≡ r → with_data k v at does r ≡ Err (ReadOnly word w) → reached x w ≡ Err NoStore
-    reaches k at does v (Err lack) is e = by-lack k v lack is e
-    reaches k at does v (Ok there) is e = cc
+    reaches : (k : ℕ) (at : Reached) (v : Wanted) (does : Effect) (r : Result Reached Lack) → x.line ≡ false → is_privileged k ≡ false → effect (decoded k) regs ≡ Ok does → wanted does.request ≡ Some v → reached x v ≡ r
+        → with_data k v at does r ≡ Err (ReadOnly word w) → Stored x regs word w
+    reaches k at v does (Err lack) line free is asks reach e = by-lack k v does lack line free is asks reach e
+    reaches k at v does (Ok there) line free is asks reach e = cc
 
-    asks : (k : ℕ) (at : Reached) (does : Effect) (o : Option Wanted) → accesses x k at does o ≡ Err (ReadOnly word w) → reached x w ≡ Err NoStore
-    asks k at does None e = cc
-    asks k at does (Some v) e = reaches k at does v (reached x v) refl e
+    asks-for : (k : ℕ) (at : Reached) (does : Effect) (o : Option Wanted) → x.line ≡ false → is_privileged k ≡ false → effect (decoded k) regs ≡ Ok does → wanted does.request ≡ o
+        → accesses x k at does o ≡ Err (ReadOnly word w) → Stored x regs word w
+    asks-for k at does None line free is asks e = cc
+    asks-for k at does (Some v) line free is asks e = reaches k at v does (reached x v) line free is asks refl e
 
-    does-it : (k : ℕ) (at : Reached) (r : Result Effect Exception) → executes x k at r ≡ Err (ReadOnly word w) → reached x w ≡ Err NoStore
-    does-it k at (Err y) e = cc
-    does-it k at (Ok does) e = asks k at does (wanted does.request) e
+    does-it : (k : ℕ) (at : Reached) (r : Result Effect Exception) → x.line ≡ false → is_privileged k ≡ false → effect (decoded k) regs ≡ r → executes x k at r ≡ Err (ReadOnly word w) → Stored x regs word w
+    does-it k at (Err y) line free is e = cc
+    does-it k at (Ok does) line free is e = asks-for k at does (wanted does.request) line free is refl e
 
-    decides : (k : ℕ) (at : Reached) (b : Bool) → (if b then Err (Privileged k) else executes x k at (effect (decoded k) regs)) ≡ Err (ReadOnly word w) → reached x w ≡ Err NoStore
-    decides k at true e = cc
-    decides k at false e = does-it k at (effect (decoded k) regs) e
+    decides : (k : ℕ) (at : Reached) (b : Bool) → is_privileged k ≡ b → x.line ≡ false → (if b then Err (Privileged k) else executes x k at (effect (decoded k) regs)) ≡ Err (ReadOnly word w) → Stored x regs word w
+    decides k at true free line e = cc
+    decides k at false free line e = does-it k at (effect (decoded k) regs) line free refl e
 
-    by-fetch : (lack : Lack) → ◌≡◌ {A = Result Done Trap} (Err (fetch_trap (fetch_at regs.pc) lack)) (Err (ReadOnly word w)) → reached x w ≡ Err NoStore
+    by-fetch : (lack : Lack) → ◌≡◌ {A = Result Done Trap} (Err (fetch_trap (fetch_at regs.pc) lack)) (Err (ReadOnly word w)) → Stored x regs word w
     by-fetch NoRange e = cc
     by-fetch NoHalf e = cc
-    by-fetch (DeadFrame frame) e = cc
+    by-fetch (DeadFrame there) e = cc
     by-fetch NoStore e = cc
 
-    fetch : (r : Result Reached Lack) → fetches x pages regs r ≡ Err (ReadOnly word w) → reached x w ≡ Err NoStore
-    fetch (Err lack) e = by-fetch lack e
-    fetch (Ok at) e = decides (word_through pages at regs.pc) at (is_privileged (word_through pages at regs.pc)) e
+    fetch : (r : Result Reached Lack) → x.line ≡ false → fetches x pages regs r ≡ Err (ReadOnly word w) → Stored x regs word w
+    fetch (Err lack) line e = by-fetch lack e
+    fetch (Ok at) line e = decides (word_through pages at regs.pc) at (is_privileged (word_through pages at regs.pc)) refl line e
 
-    line : (b : Bool) → (if b then Err Line else fetches x pages regs (reached x (fetch_at regs.pc))) ≡ Err (ReadOnly word w) → reached x w ≡ Err NoStore
-    line true e = cc
-    line false e = fetch (reached x (fetch_at regs.pc)) e
+    at-line : (b : Bool) → x.line ≡ b → (if b then Err Line else fetches x pages regs (reached x (fetch_at regs.pc))) ≡ Err (ReadOnly word w) → Stored x regs word w
+    at-line true line e = cc
+    at-line false line e = fetch (reached x (fetch_at regs.pc)) line e
 
 store-purpose : (purpose : Use) → is_store purpose ≡ true → purpose ≡ Store
 store-purpose Fetch e = cc
@@ -124,7 +144,7 @@ pub read-only : (s : GuestState) (p v word : ℕ) (w : Wanted) (offset : ℕ) �
 read-only s p v word w offset co runs e leads =
     let u = with_inputs s v in
     let x = sight u p v in
-    let r = reached-closed x w (step-closed x u.pages (vcpu_of u v).registers word w e) in
+    let r = reached-closed x w (stored x u.pages (vcpu_of u v).registers word w e).reach in
     let h = r.0 in
     let tlb = (vcpu_of u v).tlb in
     let pages = length s.pages in

@@ -23,6 +23,7 @@ use Rattle.isolation_law.specs.Coherence.{HalfOnPage, HalfInTlb, IsDenied, Secon
 use Rattle.isolation_law.specs.PageRules.{MoveRule, PageRule, sources}
 use Rattle.isolation_law.specs.Given.{given}
 use Rattle.isolation_law.specs.Content.{content}
+use Rattle.isolation_law.specs.DirectStep.{lost_frames}
 use Rattle.isolation_law.specs.GuestState.{GuestState, idle, page, processor, second_level, vcpu_of, with_page, with_processor, operation_of}
 use Rattle.isolation_law.specs.Needs.{none_of}
 use Rattle.isolation_law.specs.Parts.{Processor}
@@ -82,17 +83,20 @@ denied-given user entries asid pages unit a fits inside e = by (given pages entr
         absurd (true≢false (sym (ap is_memory led_there) ∙ e))
 
 -- the frame by which a node reaches a page is one of its copies
-nearest-copy : (s : GuestState) (node : ℕ) (g : Page) → (c : Copy) × Has (copies g) c × (c.frame ≡ nearest s.around.frames node g)
-nearest-copy s node g = by (find (lies_on s.around.frames node) (copies g)) refl
+nearest-copy : (s : GuestState) (lost : ℕ → Bool) (node : ℕ) (g : Page) → (c : Copy) × Has (copies g) c × (c.frame ≡ nearest s.around.frames lost node g)
+nearest-copy s lost node g = by (find near (copies g)) refl
   where
-    found : (cs : List Copy) (c : Copy) → find (lies_on s.around.frames node) cs ≡ Some c → Has cs c
+    near : Copy → Bool
+    near c = lies_on s.around.frames node c && not (lost c.frame)
+
+    found : (cs : List Copy) (c : Copy) → find near cs ≡ Some c → Has cs c
     found [] c e = cc
-    found (d ∷ ds) c e = (elim (lies_on s.around.frames node d) as (λ b. cond b (Some d) (find (lies_on s.around.frames node) ds) ≡ Some c → Has (d ∷ ds) c) [
+    found (d ∷ ds) c e = (elim (near d) as (λ b. cond b (Some d) (find near ds) ≡ Some c → Has (d ∷ ds) c) [
       | true ↦ λ e. inl cc
       | false ↦ λ e. inr (found ds c e)
     ]) e
 
-    by : (o : Option Copy) → find (lies_on s.around.frames node) (copies g) ≡ o → (c : Copy) × Has (copies g) c × (c.frame ≡ nearest s.around.frames node g)
+    by : (o : Option Copy) → find near (copies g) ≡ o → (c : Copy) × Has (copies g) c × (c.frame ≡ nearest s.around.frames lost node g)
     by None is = (g.master, inl refl, ap (λ (o : Option Copy). (unwrap_or o g.master).frame) (sym is))
     by (Some c) is = (c, found (copies g) c is, ap (λ (o : Option Copy). (unwrap_or o g.master).frame) (sym is))
 
@@ -186,7 +190,7 @@ refills_keeps s t p co row =
       alike = λ global a b purpose. everywhere c a pages purpose w.address global ∙ sym (everywhere c b pages purpose w.address global);
     }) in
     let on_page : HalfOnPage (page s1 q) p h = subst (λ (x : Page). HalfOnPage x p h) (sym at_new) (record {
-      backed = nearest-copy s (node_of_processor s.around p) g;
+      backed = nearest-copy s (lost_frames s.around s.dead) (node_of_processor s.around p) g;
       is_mapped = get_or-set_same g.mapped p true false room;
       alone = λ writable. let r = writable-parts g.shared g.replicas (store_granted s v w) writable in (r.0, r.1);
     }) in

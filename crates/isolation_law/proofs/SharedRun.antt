@@ -140,17 +140,17 @@ reads_breaks_and_halts rest other block =
           s1,
           s2,
           inl refl,
-          record { goes_on = record { not_ended = refl; owes_no_end = refl }; is_page = lit< tt; rests = refl; change = TakesShared (shared_frame block); is_kind = refl; operation = Some (ReadsBlock 0 0); asked = record { v = 0; runs = record { loaded = refl; running = refl }; shares = true; needs = refl; at_home = refl }; rest = []; fits = (refl, refl); lives = refl; after = refl },
+          record { goes_on = record { not_ended = refl; owes_no_end = refl }; is_page = lit< tt; rests = refl; change = TakesShared (shared_frame block); is_kind = refl; operation = Some (ReadsBlock 0 0); asked = record { v = 0; runs = record { loaded = refl; running = refl }; shares = true; needs = inl refl; at_home = refl }; rest = []; fits = (refl, refl); lives = refl; after = refl },
           (
             s2,
             s3,
             inl refl,
-            inr (record { traps = record { goes_on = record { not_ended = refl; owes_no_end = refl }; runs = record { loaded = refl; running = refl }; may_act = refl; trap = DataMiss 0xAE09_0028 command_at; traps = refl; is_no_access = refl }; q = 1; b = 0; reads = refl; target = shared_frame block; waiting = false ∷ []; open_move = refl; its_own = refl; nobody_waits = nobody; unwritten = refl; after = refl }),
+            inr (record { traps = record { goes_on = record { not_ended = refl; owes_no_end = refl }; runs = record { loaded = refl; running = refl }; may_act = refl; trap = DataMiss 0xAE09_0028 command_at; traps = refl; is_no_access = refl; kept = refl }; q = 1; b = 0; reads = refl; target = shared_frame block; waiting = false ∷ []; open_move = refl; its_own = refl; nobody_waits = nobody; unwritten = refl; after = refl }),
             (
               s3,
               s4,
               inl refl,
-              record { goes_on = record { not_ended = refl; owes_no_end = refl }; is_page = lit< tt; rests = refl; change = Breaks (own_frame other); is_kind = refl; operation = None; asked = record { v = 0; runs = record { loaded = refl; running = refl }; shares = false; needs = refl; at_home = refl }; rest = []; fits = record { place = 0; is_it = refl; others = refl }; lives = refl; after = refl },
+              record { goes_on = record { not_ended = refl; owes_no_end = refl }; is_page = lit< tt; rests = refl; change = Breaks (own_frame other); is_kind = refl; operation = None; asked = record { v = 0; runs = record { loaded = refl; running = refl }; shares = false; needs = inl refl; at_home = refl }; rest = []; fits = record { place = 0; is_it = refl; others = refl }; lives = refl; after = refl },
               (
                 s4,
                 s5,
@@ -170,7 +170,7 @@ reads_breaks_and_halts rest other block =
                       s7,
                       s8,
                       inl refl,
-                      inl (record { traps = record { goes_on = record { not_ended = refl; owes_no_end = refl }; runs = record { loaded = refl; running = refl }; may_act = refl; trap = DataMiss 0xAE00_0004 halt_at; traps = refl; is_no_access = refl }; shares = false; needs_nothing = refl; after = refl }),
+                      inl (record { traps = record { goes_on = record { not_ended = refl; owes_no_end = refl }; runs = record { loaded = refl; running = refl }; may_act = refl; trap = DataMiss 0xAE00_0004 halt_at; traps = refl; is_no_access = refl; kept = refl }; shares = false; needs_nothing = refl; after = refl }),
                       (
                         s8,
                         s9,

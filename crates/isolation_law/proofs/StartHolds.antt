@@ -43,7 +43,7 @@ starts-held b counts generations lent view =
 
 -- the master of a page is held
 master-held : (s : GuestState) (q : ℕ) → q < length s.pages → Has (held s) (page s q).master
-master-held s q lt = Has-left (flat_map held_for s.pages) s.spares (page s q).master (Has-flat s.pages q (page s q).master lt (inl refl))
+master-held s q lt = Has-left (flat_map held_for s.pages) s.spares (page s q).master (Has-flat held_for s.pages q (page s q).master lt (inl refl))
 
 pub carried : (s : GuestState) (q frame generation : ℕ) (a b c : List ℕ) → Holds s a b c → Carries s q frame generation → slice_index b frame ≡ generation
 carried s q frame generation a b c view sent = ap (slice_index b) sent.frame_is ∙ view.same_generation (page s q).master (master-held s q sent.is_page) ∙ sym sent.generation_is

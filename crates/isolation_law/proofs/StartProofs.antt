@@ -1,4 +1,5 @@
 -- The start is coherent, and its content is the private machine's at the start.
+use Rattle.base_words.specs.Limits.{most_processors}
 use Rattle.private_machine.specs.Operation.{Operation}
 use Rattle.isolation_law.specs.Phases.{GoesOn, all_halted}
 use Rattle.std.proofs.Common.{◌≡◌, ◌≤◌, ℕ, zero, suc, ◌*◌, ◌<◌, cond, Some, None, List, [], ◌∷◌, ◌++◌, length, map, get_or, replicate, take, drop, refl, sym, ap, ◌∙◌, subst, arith, inl, inr, Option}
@@ -36,7 +37,7 @@ count-pages (f ∷ fs) memory = ap suc (count-pages fs (drop 4096 memory))
 shorter : (k : ℕ) (memory : List ℕ) → length memory ≡ 4096 * suc k → length (drop 4096 memory) ≡ 4096 * k
 shorter k memory whole = let cut = length-drop 4096 memory in omega arith
 
-pages-rule : (from : Sources) (n : ℕ) (fs : List Found) (memory : List ℕ) (q : ℕ) → n ≤ 16 → length memory ≡ 4096 * length fs → q < length (pages_at_start fs memory)
+pages-rule : (from : Sources) (n : ℕ) (fs : List Found) (memory : List ℕ) (q : ℕ) → n ≤ most_processors → length memory ≡ 4096 * length fs → q < length (pages_at_start fs memory)
     → (op : Option Operation) → PageRule from n op (get_or (pages_at_start fs memory) q no_page)
 pages-rule from n [] memory q few whole lt op = absurd (omega arith)
 pages-rule from n (f ∷ fs) memory zero few whole lt op =

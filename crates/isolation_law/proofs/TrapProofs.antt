@@ -51,7 +51,7 @@ through-err : (x : Sight) (w : Wanted) (lack : Lack) (o : Option Half) → throu
 through-err x w lack None e out = cc
 through-err x w lack (Some h) e out = by (x.lost h.frame) (is_store w.purpose && not h.writable) e
   where
-    by : (b c : Bool) → (if b then Err (DeadFrame h.frame) else if c then Err NoStore else Ok (at_half h)) ≡ Err lack → ⊥
+    by : (b c : Bool) → (if b then Err (DeadFrame (at_half h)) else if c then Err NoStore else Ok (at_half h)) ≡ Err lack → ⊥
     by true c e = cc
     by false true e = cc
     by false false e = cc
@@ -71,13 +71,13 @@ reached-err x w lack fits inside e = aligned (w.address % w.unit == 0) fits e
 fetch-for : (w : Wanted) (lack : Lack) → lack ≢ NoRange → trapped_access (fetch_trap w lack) ≡ Some w
 fetch-for w NoRange out = absurd (out refl)
 fetch-for w NoHalf out = refl
-fetch-for w (DeadFrame frame) out = refl
+fetch-for w (DeadFrame there) out = refl
 fetch-for w NoStore out = refl
 
 data-for : (word : ℕ) (w : Wanted) (lack : Lack) → lack ≢ NoRange → trapped_access (data_trap word w lack) ≡ Some w
 data-for word w NoRange out = absurd (out refl)
 data-for word w NoHalf out = refl
-data-for word w (DeadFrame frame) out = refl
+data-for word w (DeadFrame there) out = refl
 data-for word w NoStore out = refl
 
 -- input that joins changes nothing of where addresses lead

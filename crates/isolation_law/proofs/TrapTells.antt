@@ -13,13 +13,13 @@ use Rattle.private_machine.specs.TrapAccess.{asked_by, TellsAccess}
 fetch-tells : (regs : Regs) (lack : Lack) → TellsAccess regs (fetch_trap (fetch_at regs.pc) lack)
 fetch-tells regs NoRange = refl
 fetch-tells regs NoHalf = refl
-fetch-tells regs (DeadFrame frame) = inl refl
+fetch-tells regs (DeadFrame there) = inl refl
 fetch-tells regs NoStore = refl
 
 data-tells : (regs : Regs) (word : ℕ) (w : Wanted) (lack : Lack) → asked_by (effect (decoded word) regs) ≡ Some w → TellsAccess regs (data_trap word w lack)
 data-tells regs word w NoRange is = refl
 data-tells regs word w NoHalf is = sym is
-data-tells regs word w (DeadFrame frame) is = inr (word, is)
+data-tells regs word w (DeadFrame there) is = inr (word, is)
 data-tells regs word w NoStore is = sym is
 
 err-same : (a b : Trap) → ◌≡◌ {A = Result Done Trap} (Err a) (Err b) → a ≡ b

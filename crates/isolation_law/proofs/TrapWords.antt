@@ -1,5 +1,5 @@
 -- What a trap tells of the word at the program counter, and of a store through a half that isn't writable.
-use Rattle.std.proofs.Common.{◌≡◌, ◌≢◌, ℕ, ◌+◌, ◌-◌, ◌*◌, ◌/◌, ◌%◌, ◌==◌, if◌then◌else◌, Bool, true, false, not, ◌&&◌, List, Option, Some, None, Result, Ok, Err, refl, sym, ◌∙◌, ap, subst, arith}
+use Rattle.std.proofs.Common.{◌≡◌, ℕ, ◌+◌, ◌*◌, ◌%◌, if◌then◌else◌, Bool, true, false, Option, Some, None, Result, Ok, Err, refl, ◌∙◌, ap, subst, arith}
 use Rattle.std.proofs.lemmas.Bool.{eqb-true}
 use Rattle.base_words.specs.declared.exception.Exception.{Exception}
 use Rattle.base_words.specs.declared.regs.Regs.{Regs}
@@ -7,10 +7,10 @@ use Rattle.base_words.specs.Instruction.{Effect, effect}
 use Rattle.base_words.specs.Memory.{word_at}
 use Rattle.base_words.specs.OpcodeMap.{decoded}
 use Rattle.private_machine.specs.Links.{word_offset}
-use Rattle.private_machine.specs.PrivateMachine.{PrivateMachine, vcpu}
+use Rattle.private_machine.specs.PrivateMachine.{PrivateMachine}
 use Rattle.private_machine.specs.OwnStep.{fetched, joined, word_of, is_privileged}
 use Rattle.private_machine.specs.Reaching.{Wanted, Lack, NoRange, NoHalf, DeadFrame, NoStore, Sight, Reached, at_half, wanted, fetch_at, reached}
-use Rattle.private_machine.specs.HardwareStep.{Trap, Line, FetchMiss, DataMiss, ReadOnly, Address, Privileged, Raised, Dead, Done, cause_of, fetch_trap, data_trap, with_data, accesses, executes, decodes, fetches, hardware_step, word_through}
+use Rattle.private_machine.specs.HardwareStep.{Trap, Line, Privileged, Raised, Done, cause_of, fetch_trap, data_trap, with_data, accesses, executes, decodes, fetches, word_through}
 use Rattle.private_machine.specs.TrapAccess.{HoldsWord}
 use Rattle.isolation_law.specs.GuestState.{GuestState, processor, vcpu_of}
 use Rattle.isolation_law.specs.Content.{content}
@@ -27,13 +27,13 @@ err-same a b e = cc
 fetch-holds : (m : PrivateMachine) (v : ℕ) (w : Wanted) (lack : Lack) → HoldsWord m v (cause_of (fetch_trap w lack))
 fetch-holds m v w NoRange = tt
 fetch-holds m v w NoHalf = tt
-fetch-holds m v w (DeadFrame frame) = tt
+fetch-holds m v w (DeadFrame there) = tt
 fetch-holds m v w NoStore = tt
 
 data-holds : (m : PrivateMachine) (v word : ℕ) (w : Wanted) (lack : Lack) → fetched m v ≡ Ok word → HoldsWord m v (cause_of (data_trap word w lack))
 data-holds m v word w NoRange is = is
 data-holds m v word w NoHalf is = is
-data-holds m v word w (DeadFrame frame) is = tt
+data-holds m v word w (DeadFrame there) is = tt
 data-holds m v word w NoStore is = is
 
 -- the word that a processor fetches through its TLB is the one at the program counter

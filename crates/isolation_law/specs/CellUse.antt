@@ -1,8 +1,8 @@
 -- What a guest holds, and which cells it uses.
-use Rattle.std.specs.Prelude.{ℕ, ◌+◌, ◌==◌, Bool, false, ◌&&◌, ◌||◌, List, [], ◌∷◌, is_some, is_none}
+use Rattle.std.specs.Prelude.{ℕ, ◌+◌, ◌==◌, Bool, false, ◌&&◌, ◌||◌, List, [], ◌∷◌, ◌++◌, flat_map, is_some, is_none}
 use Rattle.std.specs.List.{list_any}
 use Rattle.private_machine.specs.Backing.{Copy}
-use Rattle.private_machine.specs.PageMove.{held_in}
+use Rattle.private_machine.specs.PageMove.{held_in, used_for}
 use Rattle.isolation_law.specs.Surroundings.{Surroundings, cell_of_frame, cell_of_processor}
 use Rattle.isolation_law.specs.Parts.{Processor}
 use Rattle.isolation_law.specs.GuestState.{GuestState}
@@ -11,9 +11,9 @@ use Rattle.isolation_law.specs.GuestState.{GuestState}
 abbrev pub held : GuestState → List Copy
 held s = held_in s.pages s.spares
 
--- the frames by which a guest uses a cell: all that it holds
+-- the frames by which a guest uses a cell: those of its pages, and the spares
 abbrev pub used_frames : GuestState → List Copy
-used_frames s = held s
+used_frames s = flat_map used_for s.pages ++ s.spares
 
 abbrev pub lies_in : Surroundings → ℕ → Copy → Bool
 lies_in w cell c = cell_of_frame w c.frame == cell

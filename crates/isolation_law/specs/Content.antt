@@ -1,5 +1,5 @@
 -- A guest as it sees itself, however its pages are backed.
-use Rattle.std.specs.Prelude.{ℕ, List, map, flat_map, length, unwrap_or}
+use Rattle.std.specs.Prelude.{map, flat_map, length}
 use Rattle.private_machine.specs.PrivateMachine.{PrivateMachine}
 use Rattle.private_machine.specs.Disk.{block_now}
 use Rattle.isolation_law.specs.GuestState.{GuestState}

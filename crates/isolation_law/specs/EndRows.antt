@@ -57,9 +57,10 @@ MayEnd s Halted = (s.end ≡ None) × (owed s ≡ Some Halted)
 MayEnd s Budget = PlanIsDone s
 MayEnd s (CellFailed c) = (s.end ≡ None) × (owed s ≡ Some (CellFailed c))
 
--- what is left by an end: all frames are released, and with them the pages; the moves end, and what was due of their pages
+-- what is left by an end: no further end has to follow; all frames are released, and with them the pages; the moves end, and
+-- what was due of their pages
 abbrev pub ended : End → GuestState → GuestState
-ended end s = record s { end = Some end; pages = []; operations = []; spares = []; due = map (without_moving s.pages) s.due }
+ended end s = record s { end = Some end; closing = None; pages = []; operations = []; spares = []; due = map (without_moving s.pages) s.due }
 
 -- The guest ends, where no page is being taken shared.
 pub record Ends (s : GuestState) (end : End) (t : GuestState) : Type 0 where

@@ -1,7 +1,7 @@
 -- Which frames a guest comes to hold and lets go of.
-use Rattle.std.specs.Prelude.{◌≡◌, ℕ, ◌<◌, ◌+◌, ◌==◌, if◌then◌else◌, Bool, List, [], ◌∷◌, count_by, length, slice_index}
+use Rattle.std.specs.Prelude.{◌≡◌, ℕ, ◌<◌, ◌+◌, ◌==◌, if◌then◌else◌, Bool, List, count_by, length, slice_index}
 use Rattle.isolation_law.specs.Surroundings.{cell_of_frame, home_cell}
-use Rattle.private_machine.specs.Backing.{Copy, Change, Migrates, Replicates, Collapses, Breaks, TakesShared, GivesShared, Page}
+use Rattle.private_machine.specs.Backing.{Copy}
 use Rattle.base_words.specs.Membership.{Has}
 use Rattle.isolation_law.specs.GuestState.{GuestState}
 use Rattle.isolation_law.specs.CellUse.{held}
@@ -14,28 +14,6 @@ count_of test cs = count_by (λ c. test c.frame c.generation) cs
 -- from one state to another some frames are gained and some dropped
 pub record Exchanged (s t : GuestState) (gained dropped : List Copy) : Type 0 where
   pub balance : (test : ℕ → ℕ → Bool) → count_of test (held t) + count_of test dropped ≡ count_of test (held s) + count_of test gained
-
--- with the begin of a move: its target, but that of a break was a spare
-abbrev pub gained : Change → List Copy
-gained (Migrates target) = target ∷ []
-gained (Replicates target) = target ∷ []
-gained Collapses = []
-gained (Breaks target) = []
-gained (TakesShared target) = target ∷ []
-gained (GivesShared target) = target ∷ []
-
--- with the end of a move
-abbrev pub dropped : Page → Change → List Copy
-dropped g (Migrates target) = g.master ∷ []
-dropped g (Replicates target) = []
-dropped g Collapses = g.replicas
-dropped g (Breaks target) = g.master ∷ []
-dropped g (TakesShared target) = target ∷ []
-dropped g (GivesShared target) = g.replicas
-
--- with the operation for which a page was taken shared: the master, but an own one becomes a spare
-abbrev pub dropped_taken : Page → List Copy
-dropped_taken g = if g.shared then g.master ∷ g.replicas else g.replicas
 
 -- the guest holds the frame
 abbrev pub IsHeld : GuestState → ℕ → Type 0

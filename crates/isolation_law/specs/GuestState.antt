@@ -1,5 +1,5 @@
 -- A guest under the monitor.
-use Rattle.std.specs.Prelude.{ℕ, List, [], Bool, false, Option, None, slice_index_or, slice_set, map, length, ◌+◌}
+use Rattle.std.specs.Prelude.{ℕ, List, [], Bool, false, Option, None, slice_index_or, slice_set, length, ◌+◌}
 use Rattle.base_words.specs.declared.events.End.{End}
 use Rattle.base_words.specs.Halves.{Half}
 use Rattle.private_machine.specs.declared.vcpu.Vcpu.{Vcpu}

@@ -10,6 +10,7 @@ pub mod StepAct
 pub mod Needs
 pub mod Causes
 pub mod Dues
+pub mod DuesFit
 pub mod Traps
 pub mod LoadRows
 pub mod RefillRow
@@ -28,10 +29,12 @@ pub mod PageRules
 pub mod Coherence
 pub mod LiveCells
 pub mod CellFailure
+pub mod EntryTells
 pub mod SecondServes
 pub mod DataWithin
 pub mod Start
 pub mod Holdings
 pub mod Exchange
+pub mod UseChange
 pub mod Isolation
 pub mod Worlds

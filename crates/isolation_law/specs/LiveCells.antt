@@ -1,4 +1,4 @@
--- No frame is held and no virtual processor is loaded in a cell that has failed, but in the one by which the guest has to end.
+-- No frame of a cell that has failed is used and no virtual processor is loaded in one, but in that by which the guest has to end.
 use Rattle.std.specs.Prelude.{◌≡◌, ℕ, true, Some}
 use Rattle.base_words.specs.declared.events.End.TheVariants.{CellFailed}
 use Rattle.isolation_law.specs.GuestState.{GuestState, is_dead}

@@ -15,9 +15,10 @@ use Rattle.isolation_law.specs.GuestState.{GuestState, page, due_on, block, is_d
 use Rattle.isolation_law.specs.Causes.{seeks_frame, first_cause}
 use Rattle.isolation_law.specs.CellUse.{held}
 use Rattle.isolation_law.specs.Dues.{cleared}
-use Rattle.isolation_law.specs.Needs.{needed, for_packet}
+use Rattle.isolation_law.specs.Needs.{Need, needed, of_step, for_packet}
 use Rattle.isolation_law.specs.Phases.{GoesOn, Runs}
 use Rattle.isolation_law.specs.StepAct.{at_hand}
+use Rattle.isolation_law.specs.Traps.{step_on}
 
 -- a move to a node is what the plan or the policy can ask for; a collapse is asked for with the home node
 abbrev pub IsPlanned : GuestState → Wish → Type 0
@@ -32,12 +33,16 @@ pub record DueAsks (s : GuestState) (p : ℕ) (wish : Wish) : Type 0 where
   pub is_due : due_on s p ≡ Some wish
   pub seeks : seeks_frame wish.kind ≡ true
 
--- the step of what is loaded on a processor needs this move, whether it is to share or to copy
+-- what is asked for, as a need
+abbrev pub as_need : Wish → Option Operation → Need
+as_need wish operation = record { page = wish.page; kind = wish.kind; operation = operation }
+
+-- the step of what is loaded on a processor needs this move, whether it is to share or to copy; or that of the hardware does
 pub record StepAsks (s : GuestState) (p : ℕ) (wish : Wish) (operation : Option Operation) : Type 0 where
   pub v : ℕ
   pub runs : Runs s p v
   pub shares : Bool
-  pub needs : needed s v shares (at_hand s v) ≡ Some (record { page = wish.page; kind = wish.kind; operation = operation })
+  pub needs : (needed s v shares (at_hand s v) ≡ Some (as_need wish operation)) ⊎ (of_step s (step_on s p v) ≡ Some (as_need wish operation))
   pub at_home : wish.node ≡ s.around.home
 
 pub record PacketAsks (s : GuestState) (wish : Wish) (operation : Option Operation) : Type 0 where
@@ -46,7 +51,7 @@ pub record PacketAsks (s : GuestState) (wish : Wish) (operation : Option Operati
   pub armed : s.devices.armed ≡ Some wish.page
   pub lives : is_dead s packet.cell ≡ false
   pub shares : Bool
-  pub needs : for_packet s shares packet wish.page ≡ Some (record { page = wish.page; kind = wish.kind; operation = operation })
+  pub needs : for_packet s shares packet wish.page ≡ Some (as_need wish operation)
   pub at_home : wish.node ≡ s.around.home
 
 -- who asks for a move that begins

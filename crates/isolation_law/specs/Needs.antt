@@ -1,8 +1,9 @@
--- Which move the step at hand needs of a page, and which a packet needs.
-use Rattle.std.specs.Prelude.{ℕ, ◌==◌, if◌then◌else◌, Bool, true, false, not, ◌&&◌, length, List, [], ◌∷◌, Option, Some, None, is_none, slice_get}
+-- Which move the step at hand needs of a page, which the hardware's step needs, and which a packet needs.
+use Rattle.std.specs.Prelude.{ℕ, ◌==◌, if◌then◌else◌, Bool, true, false, not, ◌&&◌, length, List, [], ◌∷◌, Option, Some, None, Result, Ok, Err, is_none, slice_get}
 use Rattle.base_words.specs.declared.moves.MoveKind.{MoveKind}
 use Rattle.base_words.specs.declared.moves.MoveKind.TheVariants.{Collapse, Break, TakeShared, GiveShared}
 use Rattle.private_machine.specs.Backing.{Copy}
+use Rattle.private_machine.specs.HardwareStep.{Trap, Line, FetchMiss, DataMiss, ReadOnly, Address, Privileged, Raised, Dead, Done}
 use Rattle.private_machine.specs.Operation.{Packet, Operation, ReadsBlock, Delivers}
 use Rattle.isolation_law.specs.Surroundings.{cell_of_frame, home_cell}
 use Rattle.isolation_law.specs.GuestState.{GuestState, page, block, is_dead, hand_place}
@@ -57,7 +58,23 @@ needed s v shares (SendsPage q length to) = for_send s shares q length to
 needed s v shares (WritesEntry index) = None
 needed s v shares NoAct = None
 
--- the same of the packet in hand, which comes into a page
+-- the page on a dead frame of which the hardware trapped, without a move, has to be collapsed
+abbrev pub for_lost : GuestState → Trap → Option Need
+for_lost s Line = None
+for_lost s (FetchMiss w) = None
+for_lost s (DataMiss word w) = None
+for_lost s (ReadOnly word w) = None
+for_lost s (Address word) = None
+for_lost s (Privileged word) = None
+for_lost s (Raised x) = None
+for_lost s (Dead at w) = if is_none (page s at.page).move then Some (record { page = at.page; kind = Collapse; operation = None }) else None
+
+-- the move that a step of the hardware needs
+abbrev pub of_step : GuestState → Result Done Trap → Option Need
+of_step s (Ok done) = None
+of_step s (Err trap) = for_lost s trap
+
+-- the move that the packet in hand needs, which comes into a page, where it is to share or to copy
 abbrev pub for_packet : GuestState → Bool → Packet → ℕ → Option Need
 for_packet s shares packet q =
     if shares && (length packet.bytes == 4096)

@@ -14,6 +14,7 @@ use Rattle.private_machine.specs.Everywhere.{is_everywhere}
 use Rattle.isolation_law.specs.Surroundings.{node_of_processor}
 use Rattle.isolation_law.specs.GuestState.{GuestState, page, processor, second_level, vcpu_of, with_page, with_tlb, with_second_level}
 use Rattle.isolation_law.specs.Content.{content}
+use Rattle.isolation_law.specs.DirectStep.{lost_frames}
 use Rattle.isolation_law.specs.Needs.{none_of}
 use Rattle.isolation_law.specs.Phases.{GoesOn, Runs, MayAct}
 use Rattle.private_machine.specs.TrapAccess.{missed_access, is_memory}
@@ -31,7 +32,7 @@ half_for s p v w q =
       asid = c.cp0.entry_hi.asid;
       global = is_everywhere c.tlb c.cp0.entry_hi.asid w.address (segment false w.address);
       page = q;
-      frame = nearest s.around.frames (node_of_processor s.around p) (page s q);
+      frame = nearest s.around.frames (lost_frames s.around s.dead) (node_of_processor s.around p) (page s q);
       writable = not (page s q).shared && (none_of (page s q).replicas && store_granted s v w);
     }
 

@@ -1,5 +1,7 @@
 -- A move isn't begun: the plan asked for it, or the policy.
-use Rattle.std.specs.Prelude.{◌≡◌, ℕ, ◌<◌, [], ◌∷◌, ◌++◌, length, None}
+use Rattle.std.specs.Prelude.{◌≡◌, ℕ, ◌<◌, Bool, true, false, [], ◌∷◌, ◌++◌, length, None}
+use Rattle.base_words.specs.declared.events.Event.{Event}
+use Rattle.base_words.specs.declared.events.Event.TheVariants.{Direct, Refill, Emulate, Begin, Ack, Finish, Load, Unload, PacketIn, Discard, Skip, CellFails, End as Ending}
 use Rattle.base_words.specs.declared.moves.By.{By}
 use Rattle.base_words.specs.declared.moves.By.TheVariants.{Plan, Due, Step, Packet}
 use Rattle.isolation_law.specs.Parts.{Wish, SkipEntry}
@@ -21,6 +23,22 @@ asker (Plan p) = p.0
 asker (Due p) = p.0
 asker (Step p) = p.0
 asker Packet = 0
+
+-- an entry tells of a move that isn't begun
+abbrev pub is_skip : Event → Bool
+is_skip (Load p v) = false
+is_skip (Unload p) = false
+is_skip (Direct p v) = false
+is_skip (Refill p) = false
+is_skip (Emulate p v) = false
+is_skip (Begin q kind node by) = false
+is_skip (Ack p q) = false
+is_skip (Finish q) = false
+is_skip (PacketIn k) = false
+is_skip (Discard k) = false
+is_skip (Skip k) = true
+is_skip (CellFails c) = false
+is_skip (Ending end) = false
 
 -- what is left by a skip
 abbrev pub with_skipped : GuestState → SkipEntry → GuestState

@@ -1,5 +1,6 @@
 -- A guest under the monitor at its start.
 use Rattle.std.specs.Prelude.{◌≡◌, ℕ, ◌<◌, ◌≤◌, ◌*◌, List, [], ◌∷◌, map, false, Bool, None, length, replicate, take, drop, slice_index_or}
+use Rattle.base_words.specs.Limits.{most_cells, most_processors}
 use Rattle.base_words.specs.declared.input.InputEntry.{InputEntry}
 use Rattle.private_machine.specs.Backing.{Page}
 use Rattle.private_machine.specs.PrivateMachine.{PrivateMachine}
@@ -12,10 +13,10 @@ use Rattle.isolation_law.specs.GuestState.{GuestState, idle}
 
 -- the empty sets of processors and of cells
 abbrev pub no_processors : List Bool
-no_processors = replicate 16 false
+no_processors = replicate most_processors false
 
 abbrev pub no_cells : List Bool
-no_cells = replicate 4 false
+no_cells = replicate most_cells false
 
 -- a frame that was found for a page, and its generation
 pub record Found : Type 0 where
@@ -34,7 +35,7 @@ pub record Boot : Type 0 where
 -- a frame for each page, whole pages and blocks, a virtual processor, and not too many processors
 pub record IsBoot (b : Boot) : Type 0 where
   pub has_vcpu : 0 < b.vcpus
-  pub few_processors : length b.around.processors ≤ 16
+  pub few_processors : length b.around.processors ≤ most_processors
   pub backed : length b.frames ≡ b.image.pages
   pub whole : length b.image.memory ≡ 4096 * b.image.pages
   pub blocks : (k : ℕ) → k < length b.disk → length (slice_index_or b.disk k []) ≡ 4096

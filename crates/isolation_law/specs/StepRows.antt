@@ -16,7 +16,7 @@ use Rattle.private_machine.specs.Disk.{block_now}
 use Rattle.isolation_law.specs.Content.{content, with_own}
 use Rattle.isolation_law.specs.DirectStep.{direct}
 use Rattle.isolation_law.specs.Dues.{cleared}
-use Rattle.isolation_law.specs.Needs.{needed}
+use Rattle.isolation_law.specs.Needs.{needed, for_lost}
 use Rattle.isolation_law.specs.Phases.{GoesOn, Runs, MayAct}
 use Rattle.isolation_law.specs.StepAct.{at_hand}
 use Rattle.private_machine.specs.DeviceAct.{Act, StoresTo, ReadsDisk, WritesDisk, SendsPage, WritesEntry, NoAct}
@@ -33,7 +33,7 @@ pub record Steps (s : GuestState) (p v : ℕ) (t : GuestState) : Type 0 where
   pub after : t ≡ direct s p v done
 
 -- The monitor makes a step where the hardware traps, but not for an access that the guest grants on memory: that one gets
--- its half, or its move.
+-- its half, or its move; nor where a dead frame was reached whose page has still to be collapsed.
 pub record IsEmulated (s : GuestState) (p v : ℕ) : Type 0 where
   pub goes_on : GoesOn s
   pub runs : Runs s p v
@@ -41,6 +41,7 @@ pub record IsEmulated (s : GuestState) (p v : ℕ) : Type 0 where
   pub trap : Trap
   pub traps : step_on s p v ≡ Err trap
   pub is_no_access : is_granted s v (trapped_access trap) ≡ false
+  pub kept : for_lost s trap ≡ None
 
 -- no halves of a processor and no second-level entries of a virtual processor for a pair of pages
 abbrev pub pair_dropped : ℕ → ℕ → ℕ → GuestState → GuestState

@@ -1,9 +1,8 @@
 -- What guests send to each other, and what is taken of it.
-use Rattle.std.specs.Prelude.{◌≡◌, ◌≢◌, ◌⊎◌, ℕ, suc, ◌==◌, ◌<◌, ◌≤◌, if◌then◌else◌, Bool, List, [], ◌∷◌, ◌++◌, length, flat_map, filter, All, Option, Some, None, slice_index_or}
+use Rattle.std.specs.Prelude.{◌≡◌, ◌≢◌, ◌⊎◌, ℕ, suc, ◌==◌, ◌<◌, ◌≤◌, if◌then◌else◌, Bool, List, [], ◌∷◌, ◌++◌, length, flat_map, filter, Option, Some, None, slice_index_or}
 use Rattle.base_words.specs.declared.events.Event.{Event}
 use Rattle.base_words.specs.declared.events.Event.TheVariants.{Direct, Refill, Emulate, Begin, Ack, Finish, Load, Unload, PacketIn, Discard, Skip, CellFails, End as Ending}
-use Rattle.base_words.specs.declared.events.End.{End}
-use Rattle.base_words.specs.declared.events.End.TheVariants.{Budget, Halted, CellFailed}
+use Rattle.base_words.specs.declared.events.End.TheVariants.{Budget}
 use Rattle.base_words.specs.declared.input.SentPacket.{SentPacket}
 use Rattle.private_machine.specs.Operation.{Packet}
 use Rattle.isolation_law.specs.GuestState.{GuestState}

@@ -1,26 +1,35 @@
 //! What one entry keeps and does, and how a run grows by it: for the calls that make entries.
-ghost use Rattle.std.specs.Prelude.{◌≡◌, ◌≢◌, ◌⊎◌, ℕ, ◌/◌, List, [], ◌∷◌, ◌++◌, ◌<◌, ◌≤◌, length, take, true, None, Some, Ok, Err};
+ghost use Rattle.std.specs.Prelude.{◌≡◌, ◌≢◌, ◌⊎◌, ℕ, ◌+◌, ◌*◌, ◌/◌, ◌%◌, List, [], ◌∷◌, ◌++◌, ◌<◌, ◌≤◌, length, take, true, false, None, Some, Ok, Err};
 ghost use Rattle.private_machine.specs.Links.{page_bytes};
+ghost use Rattle.base_words.specs.Membership.{Has};
 ghost use Rattle.base_words.specs.declared.events.Event.{Event};
+ghost use Rattle.base_words.specs.declared.exception.Use.TheVariants.{Load};
 ghost use Rattle.private_machine.specs.PrivateRun.{private_run};
 ghost use Rattle.base_words.specs.declared.regs.Regs.{Regs};
-ghost use Rattle.private_machine.specs.Backing.{Page};
-ghost use Rattle.private_machine.specs.HardwareStep.{Trap, Done, ReadOnly, hardware_step, cause_of};
+ghost use Rattle.private_machine.specs.Backing.{Copy, Page};
+ghost use Rattle.private_machine.specs.DeviceAct.{StoresTo};
+ghost use Rattle.private_machine.specs.HardwareStep.{Trap, Done, ReadOnly, Dead, hardware_step, cause_of};
 ghost use Rattle.private_machine.specs.DirectAccess.{data_told, data_reached};
 ghost use Rattle.base_words.specs.declared.place.Place.TheVariants.{Memory};
 ghost use Rattle.private_machine.specs.OwnStep.{joined, led};
 ghost use Rattle.private_machine.specs.TrapAccess.{HoldsWord};
-ghost use Rattle.private_machine.specs.Reaching.{Sight, Wanted};
+ghost use Rattle.private_machine.specs.Reaching.{Sight, Reached, Wanted};
 ghost use Rattle.private_machine.specs.Serving.{AllServe};
 ghost use Rattle.private_machine.specs.TrapAccess.{TellsAccess};
 ghost use Rattle.isolation_law.specs.GuestState.{GuestState, page, processor};
+ghost use Rattle.isolation_law.specs.StepAct.{at_hand};
 ghost use Rattle.isolation_law.specs.Traps.{step_on};
 ghost use Rattle.isolation_law.specs.DataWithin.{IsWithinPages};
+ghost use Rattle.isolation_law.specs.DuesFit.{DuesFit};
+ghost use Rattle.isolation_law.specs.PageRules.{needs_spare};
+ghost use Rattle.isolation_law.specs.SkipRow.{Skips, is_skip};
+ghost use Rattle.isolation_law.specs.Start.{Boot, IsBoot, start};
 ghost use Rattle.isolation_law.specs.DirectStep.{held_of, with_inputs};
 ghost use Rattle.isolation_law.specs.Content.{content};
 ghost use Rattle.isolation_law.specs.Coherence.{Coherent};
 ghost use Rattle.isolation_law.specs.LiveCells.{UsesLive};
 ghost use Rattle.isolation_law.specs.OwnHistory.{own};
+ghost use Rattle.isolation_law.specs.Phases.{GoesOn};
 ghost use Rattle.isolation_law.specs.PacketRows.{ComesToHand};
 ghost use Rattle.isolation_law.specs.MachineEvent.{Row};
 ghost use Rattle.isolation_law.specs.Run.{Run};
@@ -43,6 +52,25 @@ pub fn hand_keeps()
     ensures uses_live { (s t : GuestState) → UsesLive s → ComesToHand s t → UsesLive t }
     ensures same { (s t : GuestState) → ComesToHand s t → content t ≡ content s }
     ensures around { (s t : GuestState) → ComesToHand s t → t.around ≡ s.around }
+{}
+
+/// The moves that weren't begun grow by a skip alone, by one.
+pub fn skips_grow()
+    ensures same { (s t : GuestState) (e : Event) → Row s e t → is_skip e ≡ false → t.skips ≡ s.skips }
+    ensures one { (s t : GuestState) (k : ℕ) → (row : Skips s k t) → t.skips ≡ s.skips ++ row.entry ∷ [] }
+{}
+
+/// The policy's choices that are due fit the guest, from its start on: whatever entry comes, and where a packet comes to hand.
+pub fn dues_fit()
+    ensures starts { (b : Boot) → DuesFit (start b) }
+    ensures row { (s t : GuestState) (e : Event) → (s.end ≡ None → Coherent s) → DuesFit s → Row s e t → DuesFit t }
+    ensures hand { (s t : GuestState) → DuesFit s → ComesToHand s t → DuesFit t }
+    ensures run { (b : Boot) (journal : List Event) (t : GuestState) → IsBoot b → Run (start b) journal t → DuesFit t }
+{}
+
+/// Where a page needs a spare there is one.
+pub fn spares_enough()
+    ensures { (s : GuestState) (q : ℕ) → Coherent s → q < length s.pages → needs_spare (page s q) ≡ true → 0 < length s.spares }
 {}
 
 /// A run and an entry are a run; so are a run and a packet that comes to hand, and a run and a run.
@@ -72,6 +100,19 @@ pub fn traps_hold()
 /// replicas: it needs a move.
 pub fn read_only_needs()
     ensures { (s : GuestState) (p v word : ℕ) (w : Wanted) (offset : ℕ) → Coherent s → (processor s p).loaded ≡ Some v → step_on s p v ≡ Err (ReadOnly word w) → led (content s) v w.unit w.purpose w.address ≡ Ok (Memory offset) → ((page s (offset / 4096)).shared ≡ true) ⊎ ((page s (offset / 4096)).replicas ≢ []) }
+{}
+
+/// Such a store is what the step at hand does with its page.
+pub fn read_only_stores()
+    ensures { (s : GuestState) (p v word : ℕ) (w : Wanted) (offset : ℕ) → Coherent s → (processor s p).loaded ≡ Some v → step_on s p v ≡ Err (ReadOnly word w) → led (content s) v w.unit w.purpose w.address ≡ Ok (Memory offset) → at_hand s v ≡ StoresTo (offset / 4096) }
+{}
+
+/// The frame of a failed cell for which the hardware traps is a replica of its page, which isn't shared: the page can be collapsed.
+/// It is the page to which the access leads, as a load.
+pub fn lost_is_replica()
+    ensures collapses { (s : GuestState) (p v : ℕ) (at : Reached) (w : Wanted) → Coherent s → UsesLive s → GoesOn s → (processor s p).loaded ≡ Some v → step_on s p v ≡ Err (Dead at w) → (at.page < length s.pages) × ((page s at.page).shared ≡ false) × ((page s at.page).replicas ≢ []) }
+    ensures frame { (s : GuestState) (p v : ℕ) (at : Reached) (w : Wanted) → Coherent s → UsesLive s → GoesOn s → (processor s p).loaded ≡ Some v → step_on s p v ≡ Err (Dead at w) → (c : Copy) × Has (page s at.page).replicas c × (c.frame ≡ at.frame) }
+    ensures leads { (s : GuestState) (p v : ℕ) (at : Reached) (w : Wanted) → Coherent s → (processor s p).loaded ≡ Some v → step_on s p v ≡ Err (Dead at w) → led (content s) v w.unit Load w.address ≡ Ok (Memory (at.page * 4096 + w.address % 4096)) }
 {}
 
 /// The data access that is told of a step is on a page of the guest.

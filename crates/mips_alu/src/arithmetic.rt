@@ -17,6 +17,7 @@ pub enum AluOut {
 }
 
 /// The signed sum, or overflow.
+#[inline(always)]
 fn add(a: u32, b: u32) -> AluOut
     ensures { option_of result ≡ value_of Add a b }
 {
@@ -27,6 +28,7 @@ fn add(a: u32, b: u32) -> AluOut
 }
 
 /// The signed difference, or overflow.
+#[inline(always)]
 fn subtract(a: u32, b: u32) -> AluOut
     ensures { option_of result ≡ value_of Subtract a b }
 {
@@ -37,6 +39,7 @@ fn subtract(a: u32, b: u32) -> AluOut
 }
 
 /// What an operation makes of two words; overflow where it traps and the signed result doesn't fit.
+#[inline(always)]
 pub fn alu(op: AluOp, a: u32, b: u32) -> AluOut
     ensures { option_of result ≡ value_of op a b }
 {
@@ -55,6 +58,7 @@ pub fn alu(op: AluOp, a: u32, b: u32) -> AluOut
 }
 
 /// A word shifted by the low five bits of an amount.
+#[inline(always)]
 pub fn shift(op: ShiftOp, value: u32, amount: u32) -> u32
     ensures { result ≡ shifted op value (amount % 32) }
 {
@@ -121,6 +125,7 @@ pub fn mul_div(op: MulOp, a: u32, b: u32) -> HiLo
 }
 
 /// Whether a condition of two words holds.
+#[inline(always)]
 pub fn holds(cond: Cond, a: u32, b: u32) -> bool
     ensures { result ≡ holds_of cond a b }
 {
@@ -137,6 +142,7 @@ pub fn holds(cond: Cond, a: u32, b: u32) -> bool
 }
 
 /// A half word with its sign in the upper half.
+#[inline(always)]
 pub fn sign_extend(half: u16) -> u32
     ensures { result ≡ sign_extended half }
 {
@@ -148,6 +154,7 @@ pub fn sign_extend(half: u16) -> u32
 }
 
 /// The second operand that an immediate is.
+#[inline(always)]
 pub fn operand(op: AluOp, immediate: u16) -> u32
     ensures { result ≡ operand_of op immediate }
 {

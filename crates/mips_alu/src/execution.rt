@@ -10,6 +10,7 @@ use crate::registers::{advance, read, write};
 use base_words::{Cp0Op, Exception, Half, Instr, JumpIndex, Register, Regs, Request, Untaken};
 
 /// The instruction is done, and the next one follows.
+#[inline(always)]
 fn finish(regs: &mut Regs) -> Result<Request, Exception>
     ensures { Executes (done regs.old Nothing) regs.old regs.new result }
 {
@@ -18,6 +19,7 @@ fn finish(regs: &mut Regs) -> Result<Request, Exception>
 }
 
 /// A computed value goes into a register, and the next instruction follows.
+#[inline(always)]
 fn put(regs: &mut Regs, register: Register, out: AluOut) -> Result<Request, Exception>
     ensures { Executes (computed (option_of out) register regs.old) regs.old regs.new result }
 {
@@ -31,6 +33,7 @@ fn put(regs: &mut Regs, register: Register, out: AluOut) -> Result<Request, Exce
 }
 
 /// A trap is raised where its condition holds.
+#[inline(always)]
 fn trap(regs: &mut Regs, raised: bool) -> Result<Request, Exception>
     ensures { Executes (trapped raised regs.old) regs.old regs.new result }
 {
@@ -42,6 +45,7 @@ fn trap(regs: &mut Regs, raised: bool) -> Result<Request, Exception>
 }
 
 /// The instruction in the delay slot follows, and then the target.
+#[inline(always)]
 fn enter_slot(regs: &mut Regs, target: u32)
     ensures { regs.new ≡ to_slot regs.old target }
 {
@@ -50,6 +54,7 @@ fn enter_slot(regs: &mut Regs, target: u32)
 }
 
 /// The address after the delay slot goes into a register.
+#[inline(always)]
 fn link(regs: &mut Regs, register: Register)
     ensures { regs.new ≡ linked regs.old register }
 {
@@ -57,6 +62,7 @@ fn link(regs: &mut Regs, register: Register)
 }
 
 /// Where a branch leads: where it isn't taken its delay slot follows, or is passed over.
+#[inline(always)]
 fn go_on(regs: &mut Regs, taken: bool, untaken: Untaken, offset: u16)
     ensures { regs.new ≡ branched taken untaken offset regs.old }
 {
@@ -75,6 +81,7 @@ fn go_on(regs: &mut Regs, taken: bool, untaken: Untaken, offset: u16)
 }
 
 /// A branch or a jump is reserved in a delay slot.
+#[inline(always)]
 fn test_slot(regs: &Regs) -> Result<(), Exception>
     ensures { result ≡ outside_slot regs.now.slot }
 {
@@ -85,6 +92,7 @@ fn test_slot(regs: &Regs) -> Result<(), Exception>
 }
 
 /// A jump; in a delay slot it is reserved.
+#[inline(always)]
 fn jump(regs: &mut Regs, target: u32) -> Result<Request, Exception>
     ensures { Executes (leads regs.old.slot (to_slot regs.old target)) regs.old regs.new result }
 {
@@ -94,6 +102,7 @@ fn jump(regs: &mut Regs, target: u32) -> Result<Request, Exception>
 }
 
 /// A jump that leaves where it returns to in a register; in a delay slot it is reserved.
+#[inline(always)]
 fn jump_and_link(regs: &mut Regs, register: Register, target: u32) -> Result<Request, Exception>
     ensures { Executes (leads regs.old.slot (to_slot (linked regs.old register) target)) regs.old regs.new result }
 {
@@ -104,6 +113,7 @@ fn jump_and_link(regs: &mut Regs, register: Register, target: u32) -> Result<Req
 }
 
 /// A branch; in a delay slot it is reserved.
+#[inline(always)]
 fn branch(regs: &mut Regs, taken: bool, untaken: Untaken, offset: u16) -> Result<Request, Exception>
     ensures { Executes (leads regs.old.slot (branched taken untaken offset regs.old)) regs.old regs.new result }
 {
@@ -113,6 +123,7 @@ fn branch(regs: &mut Regs, taken: bool, untaken: Untaken, offset: u16) -> Result
 }
 
 /// A branch that leaves where it returns to in register 31, taken or not; in a delay slot it is reserved.
+#[inline(always)]
 fn branch_and_link(
     regs: &mut Regs,
     taken: bool,
@@ -128,6 +139,7 @@ fn branch_and_link(
 }
 
 /// A jump's target, in the region of the delay slot.
+#[inline(always)]
 fn jump_target(regs: &Regs, index: JumpIndex) -> u32
     ensures { result ≡ target_of regs.now index }
 {
@@ -135,6 +147,7 @@ fn jump_target(regs: &Regs, index: JumpIndex) -> u32
 }
 
 /// The address of a load or a store.
+#[inline(always)]
 fn address(regs: &Regs, base: Register, offset: u16) -> u32
     ensures { result ≡ address_of regs.now base offset }
 {
@@ -142,6 +155,7 @@ fn address(regs: &Regs, base: Register, offset: u16) -> u32
 }
 
 /// HI or LO.
+#[inline(always)]
 fn half(regs: &Regs, half: Half) -> u32
     ensures { result ≡ half_of_product half regs.now }
 {
@@ -152,6 +166,7 @@ fn half(regs: &Regs, half: Half) -> u32
 }
 
 /// Replaces HI or LO.
+#[inline(always)]
 fn set_half(regs: &mut Regs, half: Half, value: u32)
     ensures { regs.new ≡ with_half half regs.old value }
 {
@@ -162,6 +177,7 @@ fn set_half(regs: &mut Regs, half: Half, value: u32)
 }
 
 /// Register 31, in which a call leaves where it returns to.
+#[inline(always)]
 fn return_register() -> Register
     ensures { result ≡ 31 }
 {
@@ -169,6 +185,7 @@ fn return_register() -> Register
 }
 
 /// An instruction of the TLB, or the return from an exception, which is reserved in a delay slot.
+#[inline(always)]
 fn system(regs: &Regs, op: Cp0Op) -> Result<Request, Exception>
     ensures { Executes (system_of op regs.now) regs.now regs.now result }
 {
@@ -180,6 +197,7 @@ fn system(regs: &Regs, op: Cp0Op) -> Result<Request, Exception>
 
 /// Does an instruction on the registers, and answers what it asks of memory or of coprocessor 0. Where it asks something the
 /// registers stay until the answer is there, and where it raises an exception they stay.
+#[inline(always)]
 pub fn execute(instr: &Instr, regs: &mut Regs) -> Result<Request, Exception>
     ensures { Executes (effect instr.now regs.old) regs.old regs.new result }
 {

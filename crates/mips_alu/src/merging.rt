@@ -88,6 +88,7 @@ fn half_at(word: u32, byte: u32) -> u16
 }
 
 /// The multiple that the address of a load has to be.
+#[inline(always)]
 pub fn load_unit(kind: LoadKind) -> u32
     ensures value { result ≡ load_unit_of kind }
     ensures some { 0 < result }
@@ -101,6 +102,7 @@ pub fn load_unit(kind: LoadKind) -> u32
 }
 
 /// The multiple that the address of a store has to be.
+#[inline(always)]
 pub fn store_unit(kind: StoreKind) -> u32
     ensures value { result ≡ store_unit_of kind }
     ensures some { 0 < result }
@@ -114,6 +116,7 @@ pub fn store_unit(kind: StoreKind) -> u32
 }
 
 /// What a load makes of the word that has the addressed byte at a place, and of the register's old value.
+#[inline(always)]
 pub fn loaded_value(kind: LoadKind, word: u32, register: u32, byte: u32) -> u32
     requires within { byte < 4 }
     requires aligned { byte % load_unit_of kind ≡ 0 }
@@ -159,6 +162,7 @@ fn with_half(word: u32, register: u32, byte: u32) -> u32
 }
 
 /// What a store makes of the word that has the addressed byte at a place, and of the register.
+#[inline(always)]
 pub fn stored_word(kind: StoreKind, word: u32, register: u32, byte: u32) -> u32
     requires within { byte < 4 }
     requires aligned { byte % store_unit_of kind ≡ 0 }

@@ -5,6 +5,7 @@ ghost use Rattle.base_words.specs.Instruction.{register as register_of, with_reg
 use base_words::{Register, Regs};
 
 /// A register's value.
+#[inline(always)]
 pub fn read(regs: &Regs, register: Register) -> u32
     ensures { result ≡ register_of regs.now register }
 {
@@ -13,6 +14,7 @@ pub fn read(regs: &Regs, register: Register) -> u32
 }
 
 /// Replaces a register's value; a write to register 0 is dropped.
+#[inline(always)]
 pub fn write(regs: &mut Regs, register: Register, value: u32)
     ensures { regs.new ≡ with_register regs.old register value }
 {
@@ -23,6 +25,7 @@ pub fn write(regs: &mut Regs, register: Register, value: u32)
 }
 
 /// Goes to the next instruction, or from a delay slot to where it leads.
+#[inline(always)]
 pub fn advance(regs: &mut Regs)
     ensures { regs.new ≡ advanced regs.old }
 {

@@ -8,6 +8,7 @@ use crate::opcode_map::{primary, register_immediate, special};
 use base_words::{Cond, Cp0Op, Instr, Primary, RegisterImmediate, Special, Untaken};
 
 /// The instruction, where the fields that aren't free in it are 0.
+#[inline(always)]
 fn where_free(zero: bool, word: u32, instr: Instr) -> Instr
     ensures { result ≡ where_zero zero word instr }
 {
@@ -15,6 +16,7 @@ fn where_free(zero: bool, word: u32, instr: Instr) -> Instr
 }
 
 /// An instruction of opcode 0.
+#[inline(always)]
 fn special_of(place: Special, word: u32) -> Instr
     ensures { result ≡ special_instruction place word }
 {
@@ -99,6 +101,7 @@ fn special_of(place: Special, word: u32) -> Instr
 }
 
 /// An instruction of opcode 1.
+#[inline(always)]
 fn register_immediate_of(place: RegisterImmediate, word: u32) -> Instr
     ensures { result ≡ register_immediate_instruction place word }
 {
@@ -125,6 +128,7 @@ fn register_immediate_of(place: RegisterImmediate, word: u32) -> Instr
 }
 
 /// An instruction of coprocessor 0.
+#[inline(always)]
 fn cp0_of(word: u32) -> Instr
     ensures { result ≡ cp0_instruction word }
 {
@@ -158,6 +162,7 @@ fn cp0_of(word: u32) -> Instr
 }
 
 /// A branch on a register against 0.
+#[inline(always)]
 fn branch_zero_of(cond: Cond, untaken: Untaken, word: u32) -> Instr
     ensures { result ≡ instruction_at (BranchZeroPlace cond untaken) word }
 {
@@ -174,6 +179,7 @@ fn branch_zero_of(cond: Cond, untaken: Untaken, word: u32) -> Instr
 }
 
 /// The instruction that a word is; `Reserved` exactly for the words outside the table.
+#[inline(always)]
 pub fn decode(word: u32) -> Instr
     ensures { result ≡ decoded word }
 {

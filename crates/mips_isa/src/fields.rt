@@ -5,6 +5,7 @@ ghost use Rattle.base_words.specs.Fields.{rs as rs_of, rt as rt_of, rd as rd_of,
 use base_words::{JumpIndex, Register, ShiftAmount, SystemCode, TrapCode};
 
 /// Bits 25 to 21.
+#[inline(always)]
 pub fn rs(word: u32) -> Register
     ensures { result ≡ rs_of word }
 {
@@ -12,6 +13,7 @@ pub fn rs(word: u32) -> Register
 }
 
 /// Bits 20 to 16.
+#[inline(always)]
 pub fn rt(word: u32) -> Register
     ensures { result ≡ rt_of word }
 {
@@ -19,6 +21,7 @@ pub fn rt(word: u32) -> Register
 }
 
 /// Bits 15 to 11.
+#[inline(always)]
 pub fn rd(word: u32) -> Register
     ensures { result ≡ rd_of word }
 {
@@ -26,6 +29,7 @@ pub fn rd(word: u32) -> Register
 }
 
 /// Bits 10 to 6.
+#[inline(always)]
 pub fn sa(word: u32) -> ShiftAmount
     ensures { result ≡ sa_of word }
 {
@@ -33,6 +37,7 @@ pub fn sa(word: u32) -> ShiftAmount
 }
 
 /// Bits 15 to 0.
+#[inline(always)]
 pub fn immediate(word: u32) -> u16
     ensures { result ≡ immediate_of word }
 {
@@ -40,6 +45,7 @@ pub fn immediate(word: u32) -> u16
 }
 
 /// Bits 25 to 0.
+#[inline(always)]
 pub fn jump_index(word: u32) -> JumpIndex
     ensures { result ≡ jump_index_of word }
 {
@@ -47,6 +53,7 @@ pub fn jump_index(word: u32) -> JumpIndex
 }
 
 /// Bits 25 to 6.
+#[inline(always)]
 pub fn system_code(word: u32) -> SystemCode
     ensures { result ≡ system_code_of word }
 {
@@ -54,6 +61,7 @@ pub fn system_code(word: u32) -> SystemCode
 }
 
 /// Bits 15 to 6.
+#[inline(always)]
 pub fn trap_code(word: u32) -> TrapCode
     ensures { result ≡ trap_code_of word }
 {

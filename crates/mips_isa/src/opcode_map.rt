@@ -45,6 +45,7 @@ static REGISTER_IMMEDIATE: [RegisterImmediate; 32] = [
     RegisterImmediate::Reserved, RegisterImmediate::Reserved, RegisterImmediate::Reserved, RegisterImmediate::Reserved, RegisterImmediate::Reserved, RegisterImmediate::Reserved, RegisterImmediate::Reserved, RegisterImmediate::Reserved,
 ];
 
+#[inline(always)]
 fn primary_entry(map: &[Primary; 64], field: u32) -> Primary
     requires { field < 64 }
     ensures { result ≡ slice_index_or map.now field NoPrimary }
@@ -52,6 +53,7 @@ fn primary_entry(map: &[Primary; 64], field: u32) -> Primary
     map[field as usize]
 }
 
+#[inline(always)]
 fn special_entry(map: &[Special; 64], field: u32) -> Special
     requires { field < 64 }
     ensures { result ≡ slice_index_or map.now field NoSpecial }
@@ -59,6 +61,7 @@ fn special_entry(map: &[Special; 64], field: u32) -> Special
     map[field as usize]
 }
 
+#[inline(always)]
 fn register_immediate_entry(map: &[RegisterImmediate; 32], field: u32) -> RegisterImmediate
     requires { field < 32 }
     ensures { result ≡ slice_index_or map.now field NoImmediate }
@@ -67,6 +70,7 @@ fn register_immediate_entry(map: &[RegisterImmediate; 32], field: u32) -> Regist
 }
 
 /// What stands at a place of the primary map.
+#[inline(always)]
 pub fn primary(opcode: u32) -> Primary
     requires { opcode < 64 }
     ensures { result ≡ slice_index_or primary_map opcode NoPrimary }
@@ -75,6 +79,7 @@ pub fn primary(opcode: u32) -> Primary
 }
 
 /// What stands at a place of the map of opcode 0.
+#[inline(always)]
 pub fn special(function: u32) -> Special
     requires { function < 64 }
     ensures { result ≡ slice_index_or special_map function NoSpecial }
@@ -83,6 +88,7 @@ pub fn special(function: u32) -> Special
 }
 
 /// What stands at a place of the map of opcode 1.
+#[inline(always)]
 pub fn register_immediate(rt: u32) -> RegisterImmediate
     requires { rt < 32 }
     ensures { result ≡ slice_index_or register_immediate_map rt NoImmediate }

@@ -4,3 +4,4 @@ pub mod Replicas
 pub mod BackedPages
 pub mod PageMap
 pub mod GivingUp
+pub mod NearFrame

@@ -1,10 +1,12 @@
 //! A page and what backs it.
 ghost use Rattle.std.specs.Prelude.{◌≡◌, ◌<◌, ◌≤◌, ◌%◌, true, false, length, option_map};
+ghost use Rattle.base_words.specs.Limits.{most_processors};
 ghost use Rattle.base_words.specs.Memory.{word_at};
-ghost use Rattle.private_machine.specs.Backing.{copies, has_frame, bytes_through, nearest as nearest_of, stored_through, with_first};
+ghost use Rattle.private_machine.specs.Backing.{copies, has_frame, bytes_through, stored_through, with_first};
 ghost use Rattle.private_machine.specs.PageMove.{named_by, left_by};
 ghost use Rattle.pmap_table.specs.OpenMoves.{told};
 ghost use Rattle.pmap_table.specs.BackedPages.{own_page};
+ghost use Rattle.pmap_table.specs.NearFrame.{near_frame};
 
 use crate::OpenMove;
 use crate::master::Master;
@@ -63,7 +65,7 @@ impl BackedPage {
     /// The frame by which a node reaches the page, where each node has so many frames.
     pub(crate) fn nearest(&self, node: NodeId, frames: u32) -> FrameNo
         requires { 0 < frames }
-        ensures { result.0 ≡ nearest_of frames node.0 self.now }
+        ensures { result.0 ≡ near_frame frames node.0 self.now }
     {
         let master = self.master.number();
         if master.0 / frames == u32::from(node.0) {
@@ -97,7 +99,7 @@ impl BackedPage {
 
     /// A processor's TLB may name the page from now on.
     pub(crate) fn map(&mut self, processor: ProcId)
-        requires { processor.0 < 16 }
+        requires { processor.0 < most_processors }
         ensures { self.new ≡ named_by processor.0 self.old }
     {
         self.mapped = self.mapped.with(processor);
@@ -105,7 +107,7 @@ impl BackedPage {
 
     /// A processor's TLB no longer names the page, by which the processor has acknowledged its open move.
     pub(crate) fn unmap(&mut self, processor: ProcId)
-        requires { processor.0 < 16 }
+        requires { processor.0 < most_processors }
         ensures { self.new ≡ left_by processor.0 self.old }
     {
         self.mapped = self.mapped.without(processor);

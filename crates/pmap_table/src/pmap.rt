@@ -1,7 +1,8 @@
 //! The table of a guest's pages.
-ghost use Rattle.std.specs.Prelude.{◌≡◌, true, ◌<◌, ◌≤◌, ◌^◌, ◌↔◌, [], IsTrue, IfOk, OnOk, OnErr, length, map, option_map};
-ghost use Rattle.base_words.specs.Membership.{IsMember};
-ghost use Rattle.private_machine.specs.Backing.{page_at, copies, has_frame, nearest as nearest_of};
+ghost use Rattle.std.specs.Prelude.{◌≡◌, ℕ, Bool, true, false, ◌<◌, ◌≤◌, ◌^◌, ◌↔◌, [], IsTrue, IfOk, OnOk, OnErr, length, map, option_map};
+ghost use Rattle.base_words.specs.Limits.{most_processors};
+ghost use Rattle.base_words.specs.Membership.{Has, IsMember};
+ghost use Rattle.private_machine.specs.Backing.{Copy, page_at, copies, has_frame, nearest as nearest_of};
 ghost use Rattle.private_machine.specs.PageMove.{named_by, left_by};
 ghost use Rattle.pmap_table.specs.OpenMoves.{told};
 ghost use Rattle.pmap_table.specs.BackedPages.{own_page};
@@ -133,10 +134,11 @@ impl Pmap {
         self.at(page).master.generation()
     }
 
-    /// The frame by which a node reaches a page: a master or replica that lies on the node, else the master.
+    /// The frame by which a node reaches a page of whose frames none is lost: a master or replica that lies on the node, else the
+    /// master.
     pub fn nearest(&self, page: Ppn, node: NodeId, shape: &Shape) -> FrameNo
         requires { page.0 < length self.now.pages }
-        ensures frame { result.0 ≡ nearest_of shape.now.frames node.0 (page_at self.now.pages page.0) }
+        ensures frame { (lost : ℕ → Bool) → ((c : Copy) → Has (copies (page_at self.now.pages page.0)) c → lost c.frame ≡ false) → result.0 ≡ nearest_of shape.now.frames lost node.0 (page_at self.now.pages page.0) }
         ensures backed { has_frame (copies (page_at self.now.pages page.0)) result.0 ≡ true }
     {
         self.at(page).nearest(node, shape.frames)
@@ -169,7 +171,7 @@ impl Pmap {
     /// Whether a processor's TLB may name a page.
     pub fn is_mapped(&self, page: Ppn, processor: ProcId) -> bool
         requires page { page.0 < length self.now.pages }
-        requires processor { processor.0 < 16 }
+        requires processor { processor.0 < most_processors }
         ensures { IsTrue result ↔ IsMember (page_at self.now.pages page.0).mapped processor.0 }
     {
         self.at(page).mapped.has(processor)

@@ -1,5 +1,5 @@
 -- How a guest's pages are backed by frames of the machine, and what an access through a frame reads and changes.
-use Rattle.std.specs.Prelude.{ℕ, ◌/◌, ◌==◌, if◌then◌else◌, Bool, true, false, List, [], ◌∷◌, ◌++◌, find, length, drop, Option, None, unwrap_or, slice_index_or, slice_set}
+use Rattle.std.specs.Prelude.{ℕ, ◌/◌, ◌==◌, if◌then◌else◌, Bool, true, false, not, ◌&&◌, List, [], ◌∷◌, ◌++◌, find, length, drop, Option, None, unwrap_or, slice_index_or, slice_set}
 use Rattle.base_words.specs.Memory.{word_at, with_word}
 
 -- a frame that a guest holds, the generation under which it holds it, and its bytes
@@ -81,9 +81,9 @@ node_of_frame frames frame = frame / frames
 abbrev pub lies_on : ℕ → ℕ → Copy → Bool
 lies_on frames node c = node_of_frame frames c.frame == node
 
--- the frame by which a node reaches the page: one that lies on it, else the master
-abbrev pub nearest : ℕ → ℕ → Page → ℕ
-nearest frames node g = (unwrap_or (find (lies_on frames node) (copies g)) g.master).frame
+-- the frame by which a node reaches the page: one that lies on it and isn't lost, else the master
+abbrev pub nearest : ℕ → (ℕ → Bool) → ℕ → Page → ℕ
+nearest frames lost node g = (unwrap_or (find (λ c. lies_on frames node c && not (lost c.frame)) (copies g)) g.master).frame
 
 -- what a step of a processor can change: the guest's pages, and the line that each virtual processor has linked
 pub record Held : Type 0 where

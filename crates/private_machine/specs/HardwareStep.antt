@@ -12,7 +12,7 @@ use Rattle.private_machine.specs.OwnStep.{is_privileged}
 use Rattle.base_words.specs.Memory.{word_at}
 use Rattle.private_machine.specs.Reaching.{Wanted, Lack, NoRange, NoHalf, DeadFrame, NoStore, Sight, Reached, fetch_at, wanted, reached}
 
--- why a processor traps, with the access that it wanted; the words are the instruction's
+-- why a processor traps, with the access that it wanted; the words are the instruction's, and what is dead is what was reached
 pub data Trap : Type 0 where
   Line : Trap
   FetchMiss : Wanted → Trap
@@ -21,7 +21,7 @@ pub data Trap : Type 0 where
   Address : (word : Option ℕ) → Trap
   Privileged : (word : ℕ) → Trap
   Raised : Exception → Trap
-  Dead : (frame : ℕ) → Wanted → Trap
+  Dead : (at : Reached) → Wanted → Trap
 
 -- what a processor does by itself: what its fetch reached, what the instruction does, and what its data access reached
 pub record Done : Type 0 where
@@ -33,13 +33,13 @@ pub record Done : Type 0 where
 abbrev pub fetch_trap : Wanted → Lack → Trap
 fetch_trap w NoRange = Address None
 fetch_trap w NoHalf = FetchMiss w
-fetch_trap w (DeadFrame frame) = Dead frame w
+fetch_trap w (DeadFrame at) = Dead at w
 fetch_trap w NoStore = FetchMiss w
 
 abbrev pub data_trap : ℕ → Wanted → Lack → Trap
 data_trap word w NoRange = Address (Some word)
 data_trap word w NoHalf = DataMiss word w
-data_trap word w (DeadFrame frame) = Dead frame w
+data_trap word w (DeadFrame at) = Dead at w
 data_trap word w NoStore = ReadOnly word w
 
 -- the word around an address, where it is reached
@@ -70,7 +70,7 @@ fetches x pages regs (Ok at) = decodes x regs at (word_through pages at regs.pc)
 abbrev pub hardware_step : Sight → List Page → Regs → Result Done Trap
 hardware_step x pages regs = if x.line then Err Line else fetches x pages regs (reached x (fetch_at regs.pc))
 
--- what the monitor is told of a trap
+-- what the monitor is told of a trap; of a dead frame, its number
 abbrev pub cause_of : Trap → TrapCause
 cause_of Line = causes.Line
 cause_of (FetchMiss w) = causes.FetchMiss
@@ -79,4 +79,4 @@ cause_of (ReadOnly word w) = causes.ReadOnly word
 cause_of (Address word) = causes.Address word
 cause_of (Privileged word) = causes.Privileged word
 cause_of (Raised x) = causes.Raised x
-cause_of (Dead frame w) = causes.Dead (record { 0 = frame })
+cause_of (Dead at w) = causes.Dead (record { 0 = at.frame })

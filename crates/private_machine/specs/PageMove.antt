@@ -28,6 +28,10 @@ target_in m = target_of m.change
 abbrev pub held_for : Page → List Copy
 held_for g = copies g ++ option_to_list (option_and_then target_in g.move)
 
+-- the frames by which a page ties the guest to cells: all that it holds
+abbrev pub used_for : Page → List Copy
+used_for g = held_for g
+
 -- pages and spares hold a frame once for each place in which it stands
 abbrev pub held_in : List Page → List Copy → List Copy
 held_in pages spares = flat_map held_for pages ++ spares
@@ -71,3 +75,25 @@ spares_finished (GivesShared target) spares = spares ++ target ∷ []
 
 abbrev pub spares_taken : Page → List Copy → List Copy
 spares_taken g spares = if g.shared then spares else spares ++ g.master ∷ []
+
+-- which frames come to be held with the begin of a move: its target, but that of a break was a spare
+abbrev pub gained : Change → List Copy
+gained (Migrates target) = target ∷ []
+gained (Replicates target) = target ∷ []
+gained Collapses = []
+gained (Breaks target) = []
+gained (TakesShared target) = target ∷ []
+gained (GivesShared target) = target ∷ []
+
+-- which frames are no longer held with the end of a move
+abbrev pub dropped : Page → Change → List Copy
+dropped g (Migrates target) = g.master ∷ []
+dropped g (Replicates target) = []
+dropped g Collapses = g.replicas
+dropped g (Breaks target) = g.master ∷ []
+dropped g (TakesShared target) = target ∷ []
+dropped g (GivesShared target) = g.replicas
+
+-- and with the operation for which a page was taken shared: the master, but an own one becomes a spare
+abbrev pub dropped_taken : Page → List Copy
+dropped_taken g = if g.shared then g.master ∷ g.replicas else g.replicas

@@ -15,12 +15,17 @@ pub record Wanted : Type 0 where
   pub unit : ℕ
   pub address : ℕ
 
+-- what an access reaches by a half: the guest's page, and the frame
+pub record Reached : Type 0 where
+  pub page : ℕ
+  pub frame : ℕ
+
 -- why an access doesn't reach a frame: it isn't aligned or out of the mode's ranges, no valid half matches, the half's frame
 -- lies in a cell that has failed, or the half isn't writable
 pub data Lack : Type 0 where
   NoRange : Lack
   NoHalf : Lack
-  DeadFrame : (frame : ℕ) → Lack
+  DeadFrame : (at : Reached) → Lack
   NoStore : Lack
 
 -- what a processor goes by, beside its registers: mode, ASID, whether an interrupt is enabled and pending, the valid halves
@@ -32,11 +37,6 @@ pub record Sight : Type 0 where
   pub tlb : List Half
   pub lost : ℕ → Bool
 
--- what an access reaches by a half: the guest's page, and the frame
-pub record Reached : Type 0 where
-  pub page : ℕ
-  pub frame : ℕ
-
 abbrev pub at_half : Half → Reached
 at_half h = record { page = h.page; frame = h.frame }
 
@@ -44,7 +44,7 @@ at_half h = record { page = h.page; frame = h.frame }
 abbrev pub through_half : Sight → Wanted → Option Half → Result Reached Lack
 through_half x w None = Err NoHalf
 through_half x w (Some h) =
-    if x.lost h.frame then Err (DeadFrame h.frame)
+    if x.lost h.frame then Err (DeadFrame (at_half h))
     else if is_store w.purpose && not h.writable then Err NoStore
     else Ok (at_half h)
 

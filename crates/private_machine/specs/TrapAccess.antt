@@ -22,7 +22,7 @@ trapped_access (ReadOnly word w) = Some w
 trapped_access (Address word) = None
 trapped_access (Privileged word) = None
 trapped_access (Raised x) = None
-trapped_access (Dead frame w) = Some w
+trapped_access (Dead at w) = Some w
 
 -- the access that missed the TLB
 abbrev pub missed_access : Trap → Option Wanted
@@ -33,7 +33,7 @@ missed_access (ReadOnly word w) = None
 missed_access (Address word) = None
 missed_access (Privileged word) = None
 missed_access (Raised x) = None
-missed_access (Dead frame w) = None
+missed_access (Dead at w) = None
 
 -- an access leads to memory
 abbrev pub is_memory : Result Place Exception → Bool
@@ -71,7 +71,7 @@ TellsAccess regs (ReadOnly word w) = trapped_access (ReadOnly word w) ≡ access
 TellsAccess regs (Address word) = trapped_access (Address word) ≡ access_of regs (cause_of (Address word))
 TellsAccess regs (Privileged word) = trapped_access (Privileged word) ≡ access_of regs (cause_of (Privileged word))
 TellsAccess regs (Raised x) = trapped_access (Raised x) ≡ access_of regs (cause_of (Raised x))
-TellsAccess regs (Dead frame w) = (w ≡ fetch_at regs.pc) ⊎ ((word : ℕ) × (asked_by (effect (decoded word) regs) ≡ Some w))
+TellsAccess regs (Dead at w) = (w ≡ fetch_at regs.pc) ⊎ ((word : ℕ) × (asked_by (effect (decoded word) regs) ≡ Some w))
 
 -- a word of the machine raises an exception by itself
 pub record RaisesAlone (m : PrivateMachine) (v : ℕ) (x : Exception) : Type 0 where

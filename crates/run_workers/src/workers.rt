@@ -5,6 +5,7 @@ ghost use Rattle.run_workers.specs.declared.workers.Worker.{Worker};
 ghost use Rattle.run_workers.specs.Parts.{token_of, slices_of, slices_in};
 
 use crate::carrying::carry_out;
+use base_words::MOST_PROCESSORS;
 use guest_core::{Resources, SliceRecord};
 use guest_lock::{GuestCells, Starts};
 use machine_desc::Plan;
@@ -17,7 +18,7 @@ use std::thread::Threads;
 use std::vec::IntoIter;
 
 /// At most so many workers, each in a thread of its own.
-const WORKERS: usize = 16;
+const WORKERS: usize = MOST_PROCESSORS;
 
 /// A worker: its processor's token, and the slices that it made, unless memory was wanting.
 #[derive(Drop)]

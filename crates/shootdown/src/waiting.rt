@@ -1,5 +1,6 @@
 //! Which processors a remapping still waits for.
 ghost use Rattle.std.specs.Prelude.{◌≡◌, ◌<◌, false, slice_set};
+ghost use Rattle.base_words.specs.Limits.{most_processors};
 
 use crate::token::ProcToken;
 use base_words::ProcSet;
@@ -34,7 +35,7 @@ impl Waiting {
     /// The token's processor acknowledges, and is no longer waited for.
     #[inline]
     pub fn ack(&mut self, token: &mut ProcToken)
-        requires { token.old.number < 16 }
+        requires { token.old.number < most_processors }
         ensures left { self.new ≡ slice_set self.old token.old.number false }
         ensures same { token.new ≡ token.old }
     {

@@ -28,7 +28,7 @@ line-of x regs (Address None) tells = tells.0
 line-of x regs (Address (Some word)) tells = tells.0
 line-of x regs (Privileged word) tells = tells.0
 line-of x regs (Raised e) tells = tells
-line-of x regs (Dead frame w) tells = tells
+line-of x regs (Dead there w) tells = tells
 
 -- an interrupt is due exactly where the cause tells one
 pub line-told : (m : PrivateMachine) (v : ℕ) (needs : Option MoveKind) (cause : TrapCause) → IsTrap m v needs cause → interrupts (vcpu m v).cp0 ≡ is_line cause
@@ -66,7 +66,7 @@ by-trap m v c pages needs x (Address (Some word)) at user tells denied =
     (reached-range x (space_of c) pages tells.1.access (user ∙ ap (λ (s : AddressSpace). s.user) at.space) tells.1.no_range)
 by-trap m v c pages needs x (Privileged word) at user tells denied = tells.1
 by-trap m v c pages needs x (Raised e) at user tells denied = tt
-by-trap m v c pages needs x (Dead frame w) at user tells denied = denied
+by-trap m v c pages needs x (Dead there w) at user tells denied = denied
 
 pub expects : (m : PrivateMachine) (v : ℕ) (c : Vcpu) (pages : ℕ) (needs : Option MoveKind) (cause : TrapCause) → AtHand m v c pages → IsTrap m v needs cause → Expects c pages needs cause
 expects m v c pages needs cause at it =

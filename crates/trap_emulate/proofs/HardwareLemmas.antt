@@ -34,14 +34,14 @@ Told x regs (Address None) = (x.line ≡ false) × (reached x (fetch_at regs.pc)
 Told x regs (Address (Some word)) = (x.line ≡ false) × OutsideAt x regs word
 Told x regs (Privileged word) = (x.line ≡ false) × (is_privileged word ≡ true)
 Told x regs (Raised e) = x.line ≡ false
-Told x regs (Dead frame w) = x.line ≡ false
+Told x regs (Dead there w) = x.line ≡ false
 
 -- only a store is kept out by a half that isn't writable
 through-store : (x : Sight) (w : Wanted) (o : Option Half) → through_half x w o ≡ Err NoStore → is_store w.purpose ≡ true
 through-store x w None e = cc
 through-store x w (Some h) e = by (x.lost h.frame) (is_store w.purpose) (not h.writable) refl e
   where
-    by : (lost store read_only : Bool) → is_store w.purpose ≡ store → (if lost then Err (DeadFrame h.frame) else if store && read_only then Err NoStore else Ok (at_half h)) ≡ Err NoStore → is_store w.purpose ≡ true
+    by : (lost store read_only : Bool) → is_store w.purpose ≡ store → (if lost then Err (DeadFrame (at_half h)) else if store && read_only then Err NoStore else Ok (at_half h)) ≡ Err NoStore → is_store w.purpose ≡ true
     by true store read_only is e = cc
     by false true read_only is e = is
     by false false read_only is e = cc
@@ -63,7 +63,7 @@ through-range : (x : Sight) (w : Wanted) (o : Option Half) → through_half x w 
 through-range x w None e = cc
 through-range x w (Some h) e = by (x.lost h.frame) (is_store w.purpose && not h.writable) e
   where
-    by : (b c : Bool) → (if b then Err (DeadFrame h.frame) else if c then Err NoStore else Ok (at_half h)) ≡ Err NoRange → ⊥
+    by : (b c : Bool) → (if b then Err (DeadFrame (at_half h)) else if c then Err NoStore else Ok (at_half h)) ≡ Err NoRange → ⊥
     by true c e = cc
     by false true e = cc
     by false false e = cc
@@ -84,13 +84,13 @@ reached-range x space pages w user e = aligned (w.address % w.unit == 0) e
 fetch-told : (x : Sight) (regs : Regs) (lack : Lack) → x.line ≡ false → reached x (fetch_at regs.pc) ≡ Err lack → Told x regs (fetch_trap (fetch_at regs.pc) lack)
 fetch-told x regs NoRange off e = (off, e)
 fetch-told x regs NoHalf off e = (off, refl)
-fetch-told x regs (DeadFrame frame) off e = off
+fetch-told x regs (DeadFrame there) off e = off
 fetch-told x regs NoStore off e = (off, refl)
 
 data-told : (x : Sight) (regs : Regs) (word : ℕ) (w : Wanted) (lack : Lack) → x.line ≡ false → AsksAt regs word w → reached x w ≡ Err lack → Told x regs (data_trap word w lack)
 data-told x regs word w NoRange off is e = (off, record { access = w; asks = is; no_range = e })
 data-told x regs word w NoHalf off is e = (off, is)
-data-told x regs word w (DeadFrame frame) off is e = off
+data-told x regs word w (DeadFrame there) off is e = off
 data-told x regs word w NoStore off is e = (off, is, reached-store x w e)
 
 err-same : (a b : Trap) → ◌≡◌ {A = Result Done Trap} (Err a) (Err b) → a ≡ b

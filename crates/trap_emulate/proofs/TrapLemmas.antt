@@ -30,7 +30,7 @@ denied-same m n v needs (ReadOnly word w) here pages denied = λ granted. denied
 denied-same m n v needs (Address word) here pages denied = tt
 denied-same m n v needs (Privileged word) here pages denied = tt
 denied-same m n v needs (Raised x) here pages denied = tt
-denied-same m n v needs (Dead frame w) here pages denied = denied
+denied-same m n v needs (Dead there w) here pages denied = denied
 
 trap-same : (m n : PrivateMachine) (v : ℕ) (needs : Option MoveKind) (cause : TrapCause) → vcpu m v ≡ vcpu n v → m.pages ≡ n.pages → IsTrap m v needs cause → IsTrap n v needs cause
 trap-same m n v needs cause here pages it = record {

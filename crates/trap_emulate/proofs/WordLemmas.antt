@@ -29,13 +29,13 @@ by-trap m v x backing trap alike e = line x.line e
     fetch-holds : (w : Wanted) (lack : Lack) → HoldsWord m v (cause_of (fetch_trap w lack))
     fetch-holds w NoRange = tt
     fetch-holds w NoHalf = tt
-    fetch-holds w (DeadFrame frame) = tt
+    fetch-holds w (DeadFrame there) = tt
     fetch-holds w NoStore = tt
 
     data-holds : (word : ℕ) (w : Wanted) (lack : Lack) → fetched m v ≡ Ok word → HoldsWord m v (cause_of (data_trap word w lack))
     data-holds word w NoRange holds = holds
     data-holds word w NoHalf holds = holds
-    data-holds word w (DeadFrame frame) holds = tt
+    data-holds word w (DeadFrame there) holds = tt
     data-holds word w NoStore holds = holds
 
     reaches : (word : ℕ) (at : Reached) (does : Effect) (w : Wanted) (r : Result Reached Lack) → fetched m v ≡ Ok word → with_data word w at does r ≡ Err trap → HoldsWord m v (cause_of trap)

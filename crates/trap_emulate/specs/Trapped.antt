@@ -20,7 +20,7 @@ IsDenied m v store_needs (ReadOnly word w) = grants m v (Some w) ≡ true → st
 IsDenied m v store_needs (Address word) = Unit {0}
 IsDenied m v store_needs (Privileged word) = Unit {0}
 IsDenied m v store_needs (Raised x) = Unit {0}
-IsDenied m v store_needs (Dead frame w) = ⊥
+IsDenied m v store_needs (Dead there w) = ⊥
 
 -- the hardware, with some TLB and frames, traps at the virtual processor's registers, and tells this cause
 pub record IsTrap (m : PrivateMachine) (v : ℕ) (store_needs : Option MoveKind) (cause : TrapCause) : Type 0 where

@@ -1,5 +1,6 @@
 -- What becomes of a packet that was taken from a wire.
 use Rattle.std.specs.Prelude.{◌≡◌, ℕ, ◌<◌, List, Bool, Option, Some, None}
+use Rattle.base_words.specs.Limits.{most_cells}
 use Rattle.base_words.specs.Membership.{IsMember}
 use Rattle.frame_words.specs.FrameWords.{frame_word}
 use Rattle.frame_words.specs.Sharing.{SharedBy}
@@ -12,9 +13,9 @@ use Rattle.virtual_subnet.specs.declared.answers.Accept.{Accept}
 use Rattle.virtual_subnet.specs.declared.answers.Accept.TheVariants.{Discarded, Copied, Remapped}
 use Rattle.virtual_subnet.specs.declared.answers.CopyCause.TheVariants as cause
 
--- a cell is among those that failed: sets have cells below 4
+-- a cell is among those that failed
 abbrev pub HasFailed : List Bool → ℕ → Type 0
-HasFailed dead cell = (cell < 4) × IsMember dead cell
+HasFailed dead cell = (cell < most_cells) × IsMember dead cell
 
 -- a frame that the packet hands on is one of so many
 abbrev pub HasFrameBelow : ℕ → Packet → Type 0

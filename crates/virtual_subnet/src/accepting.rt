@@ -5,18 +5,15 @@ ghost use Rattle.wire_queue.specs.Packets.{packet_of};
 ghost use Rattle.virtual_subnet.specs.Accepting.{Accepts, HasFailed, HasFrameBelow};
 
 use crate::answers::{Accept, CopyCause};
-use base_words::{CellId, CellSet};
+use base_words::{CellId, CellSet, MOST_CELLS};
 use frame_words::{FrameTable, Holder, Share, share};
 use wire_queue::{Body, WirePacket};
-
-/// How many cells a set tells apart.
-const CELLS: u8 = 4;
 
 /// Whether a cell is among those that failed.
 fn has_failed(dead: CellSet, cell: CellId) -> bool
     ensures { IsTrue result ↔ HasFailed dead cell.0 }
 {
-    cell.0 < CELLS && dead.has(cell)
+    usize::from(cell.0) < MOST_CELLS && dead.has(cell)
 }
 
 /// What becomes of a packet that the holder's guest took from a wire, where these cells have failed. It is discarded where its cell

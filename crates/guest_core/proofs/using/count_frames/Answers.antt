@@ -3,6 +3,7 @@ use Rattle.std.proofs.Common.{◌≡◌, ◌+◌, ◌*◌, ◌<◌, ◌≤◌, L
 use Rattle.std.proofs.Math.ListN.{length-set}
 use Rattle.std.proofs.lemmas.List.{append-nil, length-map, length-take-le, map_more, take_all}
 use Rattle.std.proofs.lemmas.List.Elements.{All-get_or}
+use Rattle.base_words.specs.Limits.{most_cells}
 use Rattle.base_words.specs.declared.frame.Frame.{Frame}
 use Rattle.base_words.specs.declared.ids.FrameNo.{FrameNo}
 use Rattle.cell_depend.specs.CellUse.{Rows}
@@ -17,8 +18,8 @@ rows frames = record { frames = frames; loaded = [] }
 
 pub loop-frame-init : goal.loop-frame-init
 loop-frame-init c =
-    subst (λ (uses : UsesState). (length uses.counts ≡ 4) × AreCounts c.args.shape.now (rows []) uses) (sym c.in_ok-uses.ensures)
-    (refl, c.counters_equal_rows.ensures c.args.shape.now 4 [] (at_start 4) refl)
+    subst (λ (uses : UsesState). (length uses.counts ≡ most_cells) × AreCounts c.args.shape.now (rows []) uses) (sym c.in_ok-uses.ensures)
+    (refl, c.counters_equal_rows.ensures c.args.shape.now most_cells [] (at_start most_cells) refl)
 
 pub cell_of-cell-requires : goal.cell_of-cell-requires
 cell_of-cell-requires c =

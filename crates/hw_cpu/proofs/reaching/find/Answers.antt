@@ -15,7 +15,8 @@ pub is_dead-requires-in-ReadOnly : goal.is_dead-requires-in-ReadOnly
 is_dead-requires-in-ReadOnly g c =
     let held = g.B.Bus.held c.args.bus.now in
     let store = c.is_store.result in
-    subst (λ (a : HwAnswer). Good held store a) (sym c.lookup.ensures.answer ∙ c.in-ReadOnly.is) (good held (halves c.args.tlb.now) c.args.address c.args.mode.asid store c.requires)
+    let it = subst (λ (a : HwAnswer). Good held store a) (sym c.lookup.ensures.answer ∙ c.in-ReadOnly.is) (good held (halves c.args.tlb.now) c.args.address c.args.mode.asid store c.requires) in
+    (c.in-ReadOnly.page.0, it)
 
 pub returns-else-is_dead-clause-backed : goal.returns-else-is_dead-clause-backed
 returns-else-is_dead-clause-backed g c =

@@ -1,5 +1,5 @@
 -- By the rule on pages, and by page in the flat memory.
-use Rattle.std.proofs.Common.{ℕ, ◌*◌, refl, ap, sym, ◌∙◌, take, drop}
+use Rattle.std.proofs.Common.{◌*◌, ap, sym, ◌∙◌, take, drop}
 use Rattle.std.proofs.lemmas.List.{take-take}
 use Rattle.private_machine.specs.Backing.{Page, no_page}
 use Rattle.isolation_law.proofs.DirectProofs.{even}

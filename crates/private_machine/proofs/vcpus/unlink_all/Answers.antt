@@ -1,5 +1,5 @@
-use Rattle.std.proofs.Common.{map, sym, ap, ◌∙◌, arith}
-use Rattle.std.proofs.lemmas.List.{get_or-map, length-map}
+use Rattle.std.proofs.Common.{map, sym, ap, ◌∙◌}
+use Rattle.std.proofs.lemmas.List.{get_or-map}
 use Rattle.private_machine.specs.Links.{unlinked}
 use Rattle.private_machine.proofs.Turns.{SoFar-suc, item-same}
 use Rattle.private_machine.proofs.vcpus.unlink_all.Goals as goal

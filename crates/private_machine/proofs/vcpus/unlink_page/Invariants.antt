@@ -1,4 +1,4 @@
-use Rattle.std.proofs.Common.{◌≡◌, length, map}
+use Rattle.std.proofs.Common.{map}
 use Rattle.private_machine.specs.Links.{unlinked_page}
 use Rattle.private_machine.proofs.Turns.{SoFar}
 use Rattle.private_machine.proofs.vcpus.unlink_page.Given as goal

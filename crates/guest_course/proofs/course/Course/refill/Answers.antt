@@ -23,7 +23,7 @@ returns-in_default-clause-serves c =
     let going = c.requires.sound.going c.requires.may.goes_on.not_ended in
     let none : missed_access x.trap ≡ None =
     sym (missed-same c.traps_tell.ensures s c.args.processor.0 c.args.vcpu.0 c.args.cause x) ∙ sym c.missed.ensures.access ∙ ap (option_map wanted_of) c.in_default.is in
-    stays-denied s s c.args.processor.0 c.args.vcpu.0 c.args.cause x
+    stays-denied s s c.args.processor.0 c.args.vcpu.0 c.args.cause x refl
     (denied-other c.read_only_needs.ensures s c.args.processor.0 c.args.vcpu.0 x.trap going.coherent going.plain refl c.requires.may.runs.loaded x.traps none) refl
 
 pub granted-requires-clause-in_range : goal.granted-requires-clause-in_range
@@ -64,7 +64,7 @@ returns-in-None-clause-serves c =
     let x = c.requires.traps in
     let misses : missed_access x.trap ≡ Some (wanted_of c.in-Some.access) =
     sym (missed-same c.traps_tell.ensures s c.args.processor.0 c.args.vcpu.0 c.args.cause x) ∙ sym c.missed.ensures.access ∙ ap (option_map wanted_of) c.in-Some.is in
-    stays-denied s s c.args.processor.0 c.args.vcpu.0 c.args.cause x
+    stays-denied s s c.args.processor.0 c.args.vcpu.0 c.args.cause x refl
     (denied-missed s c.args.processor.0 c.args.vcpu.0 c.args.cause x (wanted_of c.in-Some.access) misses c.in-None.ensures) refl
 
 pub returns-in-Some-granted-clause-goes_on : goal.returns-in-Some-granted-clause-goes_on

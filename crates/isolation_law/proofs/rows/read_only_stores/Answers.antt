@@ -1,0 +1,6 @@
+-- By what the trap says of its instruction.
+use Rattle.isolation_law.proofs.rows.read_only_stores.Goals as goal
+use Rattle.isolation_law.proofs.StoreActs.{stores-at-hand}
+
+pub returns : goal.returns
+returns c = stores-at-hand
