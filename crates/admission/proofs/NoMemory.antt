@@ -13,7 +13,6 @@ use Rattle.machine_desc.specs.declared.fault.DescFault.{DescFault}
 use Rattle.machine_desc.specs.declared.fault.DescFault.TheVariants as description
 use Rattle.machine_desc.specs.declared.machine.GuestSpec.{GuestSpec}
 use Rattle.machine_desc.specs.Described.{Described, description_of}
-use Rattle.machine_desc.proofs.NameFaults.{description_of-told}
 use Rattle.admission.specs.declared.faults.Fault.{Fault}
 use Rattle.admission.specs.declared.faults.Fault.TheVariants.{Words, Read, Long, Description, BadImage, Unbuilt, CacheAdmission, Admission}
 use Rattle.admission.specs.declared.faults.UnbuiltKey.{UnbuiltKey}
@@ -24,7 +23,7 @@ use Rattle.admission.specs.Chain.{Files, ◌>>=◌, known_form, fitting, content
 use Rattle.admission.specs.Starts.{Start, unless, raw_image, elf_image, guest_image, of_guest, image_at, disk_at, start_at, starts_from}
 use Rattle.admission.specs.Unbuilt.{unbuilt, refused_key}
 use Rattle.admission.specs.Jobs.{short_in, served, checks, checked, described_job, raw_job, job_by, job_of}
-use Rattle.admission.specs.Tells.{Tells}
+use Rattle.admission.specs.Tells.{Tells, DescriptionsTell}
 
 -- ---- images
 
@@ -201,10 +200,10 @@ of_description-tells : (r : Result Described DescFault) → ((fault : DescFault)
 of_description-tells (Ok d) told = tt
 of_description-tells (Err fault) told = told fault refl
 
-described_job-tells : (alone : Bool) (files : Files) (name : List ℕ) → AlwaysTells (described_job alone files name)
-described_job-tells alone files name =
+described_job-tells : DescriptionsTell → (alone : Bool) (files : Files) (name : List ℕ) → AlwaysTells (described_job alone files name)
+described_job-tells tell alone files name =
     then-tells (content files name longest_description) _ (content-tells files name longest_description) λ bytes.
-    then-tells (of_description (description_of bytes)) _ (of_description-tells (description_of bytes) (description_of-told bytes)) λ d.
+    then-tells (of_description (description_of bytes)) _ (of_description-tells (description_of bytes) (tell bytes)) λ d.
     then-tells (starts_from files 0 d.guests) _ (starts_from-tells files 0 d.guests) (checked-tells alone d)
 
 raw_job-tells : (files : Files) (name : List ℕ) (steps : ℕ) → AlwaysTells (raw_job files name steps)
@@ -212,22 +211,22 @@ raw_job-tells files name steps =
     then-tells (content files name longest_image) _ (content-tells files name longest_image) λ bytes.
     then-tells (of_guest 0 (raw_image bytes 16)) _ (unless-tells 0 (raw_fault bytes 16) _ (raw_fault-tells bytes 16)) (λ image. tt)
 
-job_by-tells : (files : Files) (form : Form) → AlwaysTells (job_by files form)
-job_by-tells files (Raw file steps) = raw_job-tells files file steps
-job_by-tells files (Machine file) = described_job-tells false files file
-job_by-tells files (Private file) = described_job-tells true files file
+job_by-tells : DescriptionsTell → (files : Files) (form : Form) → AlwaysTells (job_by files form)
+job_by-tells tell files (Raw file steps) = raw_job-tells files file steps
+job_by-tells tell files (Machine file) = described_job-tells tell false files file
+job_by-tells tell files (Private file) = described_job-tells tell true files file
 
-told_by : (files : Files) (form : Option Form) (fault : Fault) → (known_form form >>= job_by files) ≡ Err fault → Tells fault
-told_by files None fault is = let same : Words ≡ fault = cc in subst Tells same tt
-told_by files (Some form) fault is = tells_behind fault (subst AlwaysTells is (job_by-tells files form))
+told_by : DescriptionsTell → (files : Files) (form : Option Form) (fault : Fault) → (known_form form >>= job_by files) ≡ Err fault → Tells fault
+told_by tell files None fault is = let same : Words ≡ fault = cc in subst Tells same tt
+told_by tell files (Some form) fault is = tells_behind fault (subst AlwaysTells is (job_by-tells tell files form))
 
-pub job_of-told : (words : List (List ℕ)) (files : Files) (fault : Fault) → job_of words files ≡ Err fault → Tells fault
-job_of-told words files fault is = told_by files (form_of words) fault is
+pub job_of-told : DescriptionsTell → (words : List (List ℕ)) (files : Files) (fault : Fault) → job_of words files ≡ Err fault → Tells fault
+job_of-told tell words files fault is = told_by tell files (form_of words) fault is
 
-words_by : (files : Files) (form : Option Form) → (known_form form >>= job_by files) ≡ Err Words → form ≡ None
-words_by files None is = refl
-words_by files (Some form) is = absurd (let no : ⊥ = subst AlwaysTells is (job_by-tells files form) in no)
+words_by : DescriptionsTell → (files : Files) (form : Option Form) → (known_form form >>= job_by files) ≡ Err Words → form ≡ None
+words_by tell files None is = refl
+words_by tell files (Some form) is = absurd (let no : ⊥ = subst AlwaysTells is (job_by-tells tell files form) in no)
 
 -- the words are refused only where they are no form
-pub job_of-words : (words : List (List ℕ)) (files : Files) → job_of words files ≡ Err Words → form_of words ≡ None
-job_of-words words files is = words_by files (form_of words) is
+pub job_of-words : DescriptionsTell → (words : List (List ℕ)) (files : Files) → job_of words files ≡ Err Words → form_of words ≡ None
+job_of-words tell words files is = words_by tell files (form_of words) is

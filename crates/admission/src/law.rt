@@ -8,6 +8,8 @@ ghost use Rattle.admission.specs.Steady.{IsSteady};
 ghost use Rattle.admission.specs.Tells.{Tells};
 ghost use Rattle.admission.specs.Words.{Form, Raw, Machine, Private, form_of};
 
+use machine_desc::accepted;
+
 /// Which words are forms, by examples: what the command's parser takes besides the plain ones, and what it refuses.
 pub fn examples()
     ensures plain { form_of (codes "--raw" ∷ codes "a" ∷ codes "--steps" ∷ codes "5" ∷ []) ≡ Some (Raw (codes "a") 5) }
@@ -29,7 +31,9 @@ pub fn examples()
 pub fn told()
     ensures tells { (words : List (List ℕ)) (files : Files) (fault : Fault) → job_of words files ≡ Err fault → Tells fault }
     ensures words { (words : List (List ℕ)) (files : Files) → job_of words files ≡ Err Words → form_of words ≡ None }
-{}
+{
+    accepted();
+}
 
 /// What some files ask for stays where more are known, and so does a failed read, where its file isn't among them.
 pub fn steady()

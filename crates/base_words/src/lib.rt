@@ -48,6 +48,3 @@ pub use sets::{CellSet, IdSet, MOST_CELLS, MOST_PROCESSORS, ProcSet};
 pub use tlb::{Entry, TlbAnswer};
 pub use trap::{Access, DataAccess, HwStep, TrapCause};
 pub use words::{read_word, write_word};
-
-#[cfg(test)]
-mod tests;

@@ -29,7 +29,7 @@ pub(crate) enum Filled {
     Short(u32),
 }
 
-// The next frame by the order, if there is one.
+// The next frame by the order, if there is one. Memory is wanting only before a step is made.
 fn next_frame(
     alloc: Global,
     table: &FrameTable,
@@ -47,6 +47,7 @@ fn next_frame(
     requires home { home.0 ≡ home_of (layout_of shape.now) taker }
     requires alone { holder.old.view.alone ≡ true }
     ensures next { IfOk result (λ found. NextBy table.now (layout_of shape.now) taker holder.old.view found holder.new.view) }
+    ensures err { IfErr result (λ _. holder.new.view ≡ holder.old.view) }
     ensures same { holder.new.table ≡ holder.old.table }
 {
     let _ = taker;

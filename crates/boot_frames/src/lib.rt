@@ -16,8 +16,6 @@ mod needs;
 mod placement;
 mod splitting;
 mod taken;
-#[cfg(test)]
-mod tests;
 
 pub use admitting::{admit, admitted_claims_want_memory_alone};
 pub use answers::Shortage;

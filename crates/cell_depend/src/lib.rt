@@ -4,8 +4,6 @@
 
 mod law;
 mod rows;
-#[cfg(test)]
-mod tests;
 mod uses;
 
 pub use law::{

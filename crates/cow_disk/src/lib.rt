@@ -4,8 +4,6 @@
 mod crossing;
 mod disk;
 mod overlay;
-#[cfg(test)]
-mod tests;
 
 pub use crossing::cross_threads;
 pub use disk::{Disk, Wrote};

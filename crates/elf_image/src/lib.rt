@@ -12,6 +12,3 @@ mod segments;
 
 pub use fault::ImageFault;
 pub use image::{Image, load, load_raw};
-
-#[cfg(test)]
-mod tests;

@@ -12,6 +12,3 @@ pub use base_words::{Event, ProcId, VcpuId};
 pub use crossing::cross_threads;
 pub use journal::Journal;
 pub use run::{Run, Runs};
-
-#[cfg(test)]
-mod tests;

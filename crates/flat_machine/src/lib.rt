@@ -10,10 +10,3 @@ mod memory;
 mod stepping;
 
 pub use flat::Flat;
-
-#[cfg(test)]
-mod device_tests;
-#[cfg(test)]
-mod small_guests;
-#[cfg(test)]
-mod tests;

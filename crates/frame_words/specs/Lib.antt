@@ -11,3 +11,4 @@ pub mod Borrowing
 pub mod StepKinds
 pub mod Tails
 pub mod Refusals
+pub mod AddingUp

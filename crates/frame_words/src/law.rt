@@ -1,7 +1,8 @@
 //! Laws of holds told by frames and by cells: what can be handed over, what a new holder has, and when there is nothing.
-//! And a law of the looks of a call that was refused a share.
+//! And laws of looks: of a call that was refused a share, and of the looks of calls that make several steps.
 ghost use Rattle.std.specs.Prelude.{◌≡◌, ℕ, ◌<◌, ◌≤◌, List, [], ◌++◌, length};
 ghost use Rattle.base_words.specs.declared.frame.Frame.{Frame};
+ghost use Rattle.frame_words.specs.AddingUp.{HoldsAddUp, LooksAddUp, LooksTell};
 ghost use Rattle.frame_words.specs.Refusals.{AddsShareRefusal, RefusesShare};
 ghost use Rattle.frame_words.specs.Tails.{IsFirstLook, Omits};
 ghost use Rattle.frame_words.specs.Views.{frame_holds, cell_loans, look};
@@ -34,4 +35,13 @@ pub fn a_refused_share_is_the_first_look()
         → RefusesShare (before ++ tail) word under }
     ensures first { (tail : List Look) (word under : ℕ) → RefusesShare tail word under
         → (seen : ℕ) × IsFirstLook tail (look Load word seen) }
+{}
+
+/// One hold more or less counts for its own word alone. What looks are and count, they are and count together; and what they tell
+/// of a word, they tell also where a longer call has further looks behind them, or before them.
+#[inline]
+pub fn holds_and_looks_add_up()
+    ensures holds { HoldsAddUp }
+    ensures looks { LooksAddUp }
+    ensures tell { LooksTell }
 {}

@@ -9,14 +9,10 @@ mod holder;
 mod law;
 mod loans;
 mod packing;
-#[cfg(test)]
-mod races;
 mod rights;
 mod seats;
 mod table;
 mod terms;
-#[cfg(test)]
-mod tests;
 mod view;
 
 pub use answers::{Borrow, Share, Took};
@@ -24,7 +20,7 @@ pub use crossing::cross_threads;
 pub use frames::{give_back, share, take};
 pub use holder::Holder;
 pub use law::{
-    a_refused_share_is_the_first_look, named_holds_are_frames_and_loans,
+    a_refused_share_is_the_first_look, holds_and_looks_add_up, named_holds_are_frames_and_loans,
     no_frame_and_no_loan_is_no_hold,
 };
 pub use loans::{borrow, repay};

@@ -21,7 +21,7 @@ use Rattle.guest_course.specs.CourseView.{surroundings}
 use Rattle.guest_course.specs.declared.site.Around.{Around}
 use Rattle.guest_core.specs.GuestView.{is_loaded, loaded_count}
 use Rattle.guest_core.specs.Kept.{Kept}
-use Rattle.guest_core.specs.Noting.{HoldsOf}
+use Rattle.guest_core.specs.Noting.{IsOwn, HoldsOf}
 use Rattle.guest_core.specs.Starting.{booted_with, filled, MayStart}
 use Rattle.guest_core.proofs.CountLemmas.{one, count_by-cons}
 
@@ -106,7 +106,9 @@ kept-start b none = record {
   run = none;
   noted = record {
     sides = All-nil (λ (n : SidedNote). n.side < length (started b).processors);
+    own = All-nil IsOwn;
     made = refl;
+    asked = refl;
     holds = All-nil (λ (n : SidedNote). HoldsOf (started b) n.note);
     ordered = tt;
     loaded = λ p lt. ap (λ (x : Processor). x.loaded) (sym (at-replicate (length b.around.processors) p idle));

@@ -1,6 +1,5 @@
 -- A turn's entries, and what is kept after them.
-use Rattle.std.proofs.Common.{◌≡◌, inl, ℕ, ◌<◌, ◌==◌, Bool, true, false, List, [], ◌∷◌, ◌++◌, Option, Some, None, length, refl, sym, ap, ◌∙◌, if◌then◌else◌, subst}
-use Rattle.std.proofs.lemmas.Bool.{eqb-true}
+use Rattle.std.proofs.Common.{◌≡◌, inl, ◌<◌, Bool, true, false, List, [], ◌∷◌, ◌++◌, Some, None, length, refl, sym, ap, ◌∙◌, if◌then◌else◌, subst}
 use Rattle.std.proofs.lemmas.List.{append_assoc}
 use Rattle.base_words.specs.declared.events.Event.{Event}
 use Rattle.base_words.specs.declared.events.Event.TheVariants.{Direct, Refill, Emulate, End as Ending}
@@ -11,53 +10,42 @@ use Rattle.base_words.specs.declared.moves.Policy.{Policy}
 use Rattle.shootdown.specs.declared.notes.Note.TheVariants.{Made}
 use Rattle.shootdown.specs.declared.view.SidedNote.{SidedNote}
 use Rattle.shootdown.specs.Notes.{sided}
-use Rattle.isolation_law.specs.GuestState.{GuestState, processor, vcpu_of}
+use Rattle.isolation_law.specs.GuestState.{GuestState}
 use Rattle.isolation_law.specs.MachineEvent.{Row}
 use Rattle.isolation_law.specs.Phases.{all_halted, GoesOn}
 use Rattle.isolation_law.specs.RefillRow.{Refills}
 use Rattle.isolation_law.specs.Run.{Run}
 use Rattle.isolation_law.specs.Start.{Boot}
 use Rattle.isolation_law.specs.StepRows.{Steps, Emulates}
-use Rattle.guest_core.specs.GuestCalls.{step_entries, end_of, Makes, TurnsEmulate}
+use Rattle.guest_core.specs.GuestCalls.{step_entries, end_of, Makes, SendsOut, TurnsEmulate}
 use Rattle.guest_core.specs.GuestView.{Monitored, loaded_count}
 use Rattle.guest_core.specs.Kept.{Kept}
 use Rattle.guest_core.specs.TurnParts.{Concludes}
-use Rattle.guest_core.specs.Laws.{RowLaws}
+use Rattle.guest_core.specs.Laws.{RowLaws, RunLaws}
 use Rattle.guest_core.proofs.KeptProofs.{IsOff, kept-one, kept-none, direct-leaves, refill-leaves, emulate-leaves, emulate-end, end-leaves, as-many}
 
-same-if : (b : Bool) (l : Option ℕ) → l ≡ (if b then l else l)
-same-if true l = refl
-same-if false l = refl
+pub kept-direct : RowLaws → RunLaws → (b : Boot) (s t : GuestState) (journal : List Event) (notes : List SidedNote) (p : ProcId) (v : VcpuId) → IsOff b.around.policy → Kept b s journal notes → p.0 < length s.processors
+    → Steps s p.0 v.0 t → Kept b t (journal ++ Direct p v ∷ []) (notes ++ sided p.0 (Made (Direct p v)) ∷ [])
+kept-direct w r b s t journal notes p v off k there row =
+    kept-one w r b s t journal notes (Direct p v) (sided p.0 (Made (Direct p v))) k
+    (direct-leaves s t p v row (subst (λ (x : Policy). IsOff x) (sym (ap (λ a. a.policy) k.around)) off) k.nothing_due) refl there
 
--- a note of a step is of the virtual processor that made it, which ran
-fresh : (s : GuestState) (v : VcpuId) → s.end ≡ None → (vcpu_of s v.0).halted ≡ false → (u : ℕ) → (v.0 == u) ≡ true → (s.end ≡ None) × ((vcpu_of s u).halted ≡ false)
-fresh s v on runs u e = (on, subst (λ (k : ℕ). (vcpu_of s k).halted ≡ false) (eqb-true v.0 u e) runs)
-
-pub kept-direct : RowLaws → (b : Boot) (s t : GuestState) (journal : List Event) (notes : List SidedNote) (p : ProcId) (v : VcpuId) → IsOff b.around.policy → Kept b s journal notes → p.0 < length s.processors
-    → Steps s p.0 v.0 t → t.dead ≡ s.dead → Kept b t (journal ++ Direct p v ∷ []) (notes ++ sided p.0 (Made (Direct p v)) ∷ [])
-kept-direct w b s t journal notes p v off k there row dead =
-    kept-one w b s t journal notes (Direct p v) (sided p.0 (Made (Direct p v))) k
-    (direct-leaves s t p v row dead (subst (λ (x : Policy). IsOff x) (sym (ap (λ a. a.policy) k.around)) off) k.nothing_due) there refl tt
-    (record { steps = fresh s v row.goes_on.not_ended row.runs.running }) (λ r. same-if (p.0 == r) (processor s r).loaded)
-
-pub kept-refill : RowLaws → (b : Boot) (s t : GuestState) (journal : List Event) (notes : List SidedNote) (p : ProcId) → Kept b s journal notes → Refills s p.0 t → t.dead ≡ s.dead → Kept b t (journal ++ Refill p ∷ []) notes
-kept-refill w b s t journal notes p k row dead = kept-none w b s t journal notes (Refill p) k (refill-leaves s t p row dead k.nothing_due) refl (λ r. refl)
+pub kept-refill : RowLaws → RunLaws → (b : Boot) (s t : GuestState) (journal : List Event) (notes : List SidedNote) (p : ProcId) → Kept b s journal notes → Refills s p.0 t → Kept b t (journal ++ Refill p ∷ []) notes
+kept-refill w r b s t journal notes p k row = kept-none w r b s t journal notes (Refill p) k (refill-leaves s t p row k.nothing_due) refl
 
 -- a step by the monitor's hand, and the end where it halted the last virtual processor
-concluded : (halted : Bool) → RowLaws → (b : Boot) (m t : GuestState) (journal : List Event) (notes : List SidedNote) (p : ProcId) (v : VcpuId) → Kept b m (journal ++ Emulate p v ∷ []) notes → m.end ≡ None → Concludes halted m t → t.dead ≡ m.dead
+concluded : (halted : Bool) → RowLaws → RunLaws → (b : Boot) (m t : GuestState) (journal : List Event) (notes : List SidedNote) (p : ProcId) (v : VcpuId) → Kept b m (journal ++ Emulate p v ∷ []) notes → Concludes halted m t
     → Kept b t (journal ++ step_entries p v halted) notes
-concluded false w b m t journal notes p v k on is dead = subst (λ (x : GuestState). Kept b x (journal ++ Emulate p v ∷ []) notes) (sym is) k
-concluded true w b m t journal notes p v k on is dead =
+concluded false w r b m t journal notes p v k is = subst (λ (x : GuestState). Kept b x (journal ++ Emulate p v ∷ []) notes) (sym is) k
+concluded true w r b m t journal notes p v k is =
     subst (λ (j : List Event). Kept b t j notes) (append_assoc journal (Emulate p v ∷ []) (Ending ByHalt ∷ []))
-    (kept-none w b m t (journal ++ Emulate p v ∷ []) notes (Ending ByHalt) k (end-leaves m t ByHalt on is dead k.nothing_due) refl (λ r. refl))
+    (kept-none w r b m t (journal ++ Emulate p v ∷ []) notes (Ending ByHalt) k (end-leaves m t ByHalt is k.nothing_due) refl)
 
-pub kept-emulate : RowLaws → (b : Boot) (s m t : GuestState) (journal : List Event) (notes : List SidedNote) (p : ProcId) (v : VcpuId) → Kept b s journal notes → p.0 < length s.processors → Emulates s p.0 v.0 m → m.dead ≡ s.dead → t.dead ≡ m.dead
+pub kept-emulate : RowLaws → RunLaws → (b : Boot) (s m t : GuestState) (journal : List Event) (notes : List SidedNote) (p : ProcId) (v : VcpuId) → Kept b s journal notes → p.0 < length s.processors → Emulates s p.0 v.0 m
     → (halted : Bool) → Concludes halted m t → Kept b t (journal ++ step_entries p v halted) (notes ++ sided p.0 (Made (Emulate p v)) ∷ [])
-kept-emulate w b s m t journal notes p v k there row dead dead' halted is =
-    concluded halted w b m t journal (notes ++ sided p.0 (Made (Emulate p v)) ∷ []) p v
-    (kept-one w b s m journal notes (Emulate p v) (sided p.0 (Made (Emulate p v))) k (emulate-leaves s m p v row dead k.nothing_due) there refl tt
-    (record { steps = fresh s v row.traps.goes_on.not_ended row.traps.runs.running }) (λ r. same-if (p.0 == r) (processor s r).loaded))
-    (emulate-end s m p.0 v.0 row) is dead'
+kept-emulate w r b s m t journal notes p v k there row halted is =
+    concluded halted w r b m t journal (notes ++ sided p.0 (Made (Emulate p v)) ∷ []) p v
+    (kept-one w r b s m journal notes (Emulate p v) (sided p.0 (Made (Emulate p v))) k (emulate-leaves s m p v row k.nothing_due) refl there) is
 
 -- ---- what is kept, told of the journal and the notes that there are
 
@@ -95,11 +83,12 @@ step-run true s m t p v row is = (s, m, inl refl, inl row, (m, t, inl refl, is, 
 step-run false s m t p v row is = (s, m, inl refl, inl row, inl is)
 
 pub emulate-turn : (halted : Bool) (old new : Monitored) (m : GuestState) (p : ProcId) (v : VcpuId) → all_halted m.vcpus ≡ halted → Emulates old.state p.0 v.0 m → Concludes halted m new.state
-    → new.journal ≡ old.journal ++ step_entries p v halted → TurnsEmulate old p v new
-emulate-turn halted old new m p v all row is journal =
+    → new.journal ≡ old.journal ++ step_entries p v halted → SendsOut old new → TurnsEmulate old p v new
+emulate-turn halted old new m p v all row is journal sends =
     let same : all_halted new.state.vcpus ≡ halted = ap all_halted (same-vcpus halted m new.state is) ∙ all in
     let done : Makes old (step_entries p v halted) new = record { journal = journal; run = step-run halted old.state m new.state p v row is } in
     record {
       makes = subst (λ (h : Bool). Makes old (step_entries p v h) new) (sym same) done;
       end = ends-so halted m new.state (emulate-end old.state m p.0 v.0 row) is ∙ ap end_of (sym same);
+      sends = sends;
     }

@@ -1,6 +1,8 @@
 -- What an entry leaves of what the type of a guest keeps.
-use Rattle.std.proofs.Common.{◌≡◌, inl, ℕ, zero, suc, ◌<◌, ◌==◌, if◌then◌else◌, Bool, true, false, List, [], ◌∷◌, ◌++◌, Option, Some, None, option_map, length, map, get_or, set, refl, sym, ap, ◌∙◌, subst}
+use Rattle.std.proofs.Common.{◌≡◌, inl, ℕ, zero, suc, ◌<◌, if◌then◌else◌, Bool, true, false, List, [], ◌∷◌, ◌++◌, Option, Some, None, option_map, length, map, get_or, set, refl, sym, ap, ◌∙◌, subst}
+use Rattle.std.specs.Prelude.{All}
 use Rattle.std.proofs.lemmas.List.{append-nil}
+use Rattle.std.proofs.lemmas.List.Elements.{All-nil, All-cons}
 use Rattle.base_words.specs.declared.events.Event.{Event}
 use Rattle.base_words.specs.declared.events.Event.TheVariants.{Direct, Refill, Emulate, Load, Unload, PacketIn, End as Ending}
 use Rattle.base_words.specs.declared.events.End.{End}
@@ -29,67 +31,59 @@ use Rattle.isolation_law.specs.Start.{Boot, start as started}
 use Rattle.isolation_law.specs.StepRows.{Steps, Emulates, act_done}
 use Rattle.guest_core.specs.GuestView.{loaded_count}
 use Rattle.guest_core.specs.Kept.{Kept}
-use Rattle.guest_core.specs.Noting.{noted, made_in, HoldsOf, loaded_by_note, IsNoted}
-use Rattle.guest_core.specs.Laws.{RowLaws}
+use Rattle.guest_core.specs.EntryNotes.{note_of_entry, IsAnswer}
+use Rattle.guest_core.specs.Noting.{HoldsOf}
+use Rattle.guest_core.specs.Laws.{RowLaws, RunLaws}
 use Rattle.guest_core.proofs.CountLemmas.{count-same, count-loaded, count-unloaded}
-use Rattle.guest_core.proofs.NoteLemmas.{Keeps, IsFresh, noted-one, noted-none}
+use Rattle.guest_core.proofs.NoteLemmas.{noted-entry, noted-answer}
 
 -- the policy is off
 abbrev pub IsOff : Policy → Type 0
 IsOff policy = (policy.migrate ≡ 0) × (policy.replicate ≡ 0)
 
--- an entry that leaves no choice due, no cell dead, and the end where there was one
+-- an entry that leaves no choice due
 pub record Leaves (s : GuestState) (e : Event) (t : GuestState) : Type 0 where
   pub row : Row s e t
-  pub dead : t.dead ≡ s.dead
-  pub ends : (end : End) → s.end ≡ Some end → t.end ≡ Some end
   pub due : (r : ℕ) → due_on t r ≡ None
 
-keeps : RowLaws → (s t : GuestState) (e : Event) → Leaves s e t → Keeps s t
-keeps w s t e l = record { halts = λ v h. w.halts s t e v l.row h; ends = l.ends; dead = l.dead; count = w.processors s t e l.row }
+-- the note of an entry is of a processor that is there
+abbrev AreThere : GuestState → List SidedNote → Type 0
+AreThere s notes = All (λ (n : SidedNote). n.side < length s.processors) notes
 
-pub kept-one : RowLaws → (b : Boot) (s t : GuestState) (journal : List Event) (notes : List SidedNote) (e : Event) (n : SidedNote) → Kept b s journal notes → Leaves s e t
-    → n.side < length s.processors → made_in (n ∷ []) ≡ noted (e ∷ []) → HoldsOf t n.note → IsFresh s n.note
-    → ((r : ℕ) → loaded_after e r (processor s r).loaded ≡ (if n.side == r then loaded_by_note (processor s r).loaded n.note else (processor s r).loaded))
-    → Kept b t (journal ++ e ∷ []) (notes ++ n ∷ [])
-kept-one w b s t journal notes e n k l there made holds fresh loads = record {
+kept-entry : RowLaws → RunLaws → (b : Boot) (s t : GuestState) (journal : List Event) (notes : List SidedNote) (e : Event) (side : ℕ) → Kept b s journal notes → Leaves s e t
+    → AreThere s (note_of_entry side t.skips e) → Kept b t (journal ++ e ∷ []) (notes ++ note_of_entry side t.skips e)
+kept-entry w r b s t journal notes e side k l there = record {
   run = w.grows (started b) s t journal e k.run l.row;
-  noted = noted-one s t journal (e ∷ []) notes n k.noted (keeps w s t e l) there made holds fresh (λ r. w.loaded s t e r l.row ∙ loads r);
+  noted = noted-entry w r b s t journal notes e side k.run k.noted l.row there;
   around = w.around s t e l.row ∙ k.around;
   nothing_due = l.due;
   processors = w.processors s t e l.row ∙ k.processors;
   vcpus = w.count s t e l.row ∙ k.vcpus;
 }
 
-pub kept-none : RowLaws → (b : Boot) (s t : GuestState) (journal : List Event) (notes : List SidedNote) (e : Event) → Kept b s journal notes → Leaves s e t
-    → noted (e ∷ []) ≡ [] → ((r : ℕ) → loaded_after e r (processor s r).loaded ≡ (processor s r).loaded) → Kept b t (journal ++ e ∷ []) notes
-kept-none w b s t journal notes e k l none loads = record {
-  run = w.grows (started b) s t journal e k.run l.row;
-  noted = noted-none s t journal (e ∷ []) notes k.noted (keeps w s t e l) none (λ r. w.loaded s t e r l.row ∙ loads r);
-  around = w.around s t e l.row ∙ k.around;
-  nothing_due = l.due;
-  processors = w.processors s t e l.row ∙ k.processors;
-  vcpus = w.count s t e l.row ∙ k.vcpus;
-}
+pub kept-one : RowLaws → RunLaws → (b : Boot) (s t : GuestState) (journal : List Event) (notes : List SidedNote) (e : Event) (n : SidedNote) → Kept b s journal notes → Leaves s e t
+    → note_of_entry n.side t.skips e ≡ n ∷ [] → n.side < length s.processors → Kept b t (journal ++ e ∷ []) (notes ++ n ∷ [])
+kept-one w r b s t journal notes e n k l is there =
+    let all = All-cons (λ (m : SidedNote). m.side < length s.processors) n [] there (All-nil _) in
+    subst (λ (more : List SidedNote). Kept b t (journal ++ e ∷ []) (notes ++ more)) is (kept-entry w r b s t journal notes e n.side k l (subst (AreThere s) (sym is) all))
+
+pub kept-none : RowLaws → RunLaws → (b : Boot) (s t : GuestState) (journal : List Event) (notes : List SidedNote) (e : Event) → Kept b s journal notes → Leaves s e t
+    → note_of_entry 0 t.skips e ≡ [] → Kept b t (journal ++ e ∷ []) notes
+kept-none w r b s t journal notes e k l none =
+    let all = kept-entry w r b s t journal notes e 0 k l (subst (AreThere s) (sym none) (All-nil _)) in
+    subst (Kept b t (journal ++ e ∷ [])) (ap (λ (more : List SidedNote). notes ++ more) none ∙ append-nil notes) all
 
 -- an answer that is noted, with no entry
-still : (s : GuestState) → Keeps s s
-still s = record { halts = λ v h. h; ends = λ e h. h; dead = refl; count = refl }
-
-pub kept-answer : (b : Boot) (s : GuestState) (journal : List Event) (notes : List SidedNote) (n : SidedNote) → Kept b s journal notes → n.side < length s.processors → made_in (n ∷ []) ≡ [] → HoldsOf s n.note → IsFresh s n.note
-    → ((l : Option ℕ) → loaded_by_note l n.note ≡ l) → Kept b s journal (notes ++ n ∷ [])
-kept-answer b s journal notes n k there none holds fresh same = record {
+pub kept-answer : RunLaws → (b : Boot) (s : GuestState) (journal : List Event) (notes : List SidedNote) (n : SidedNote) → Kept b s journal notes → n.side < length s.processors → IsAnswer n.note → HoldsOf s n.note
+    → Kept b s journal (notes ++ n ∷ [])
+kept-answer r b s journal notes n k there is holds = record {
   run = k.run;
-  noted = subst (λ j. IsNoted s j (notes ++ n ∷ [])) (append-nil journal) (noted-one s s journal [] notes n k.noted (still s) there none holds fresh (λ r. by (n.side == r) (processor s r).loaded));
+  noted = noted-answer r b s journal notes n k.run k.noted there is holds;
   around = k.around;
   nothing_due = k.nothing_due;
   processors = k.processors;
   vcpus = k.vcpus;
 }
-  where
-    by : (c : Bool) (l : Option ℕ) → l ≡ (if c then loaded_by_note l n.note else l)
-    by true l = sym (same l)
-    by false l = refl
 
 -- ---- what is due
 
@@ -143,29 +137,21 @@ act-end s p v NoAct = refl
 
 -- ---- each entry
 
-none-ended : (s t : GuestState) → s.end ≡ None → (end : End) → s.end ≡ Some end → t.end ≡ Some end
-none-ended s t on end is = absurd (let no : None ≡ Some end = sym on ∙ is in no-some end no)
-  where
-    no-some : (end : End) → None ≡ Some end → ⊥
-    no-some end e = cc
+pub load-leaves : (s t : GuestState) (p : ProcId) (v : VcpuId) → Loads s p.0 v.0 t → ((r : ℕ) → due_on s r ≡ None) → Leaves s (Load p v) t
+load-leaves s t p v row none = record { row = row; due = λ r. ap (λ x. due_on x r) row.after ∙ none r }
 
-pub load-leaves : (s t : GuestState) (p : ProcId) (v : VcpuId) → Loads s p.0 v.0 t → t.dead ≡ s.dead → ((r : ℕ) → due_on s r ≡ None) → Leaves s (Load p v) t
-load-leaves s t p v row dead none = record { row = row; dead = dead; ends = none-ended s t row.goes_on.not_ended; due = λ r. ap (λ x. due_on x r) row.after ∙ none r }
+pub unload-leaves : (s t : GuestState) (p : ProcId) → Unloads s p.0 t → ((r : ℕ) → due_on s r ≡ None) → Leaves s (Unload p) t
+unload-leaves s t p row none = record { row = row; due = λ r. ap (λ x. due_on x r) row.after ∙ due-set s.due p.0 r (none r) }
 
-pub unload-leaves : (s t : GuestState) (p : ProcId) → Unloads s p.0 t → t.dead ≡ s.dead → ((r : ℕ) → due_on s r ≡ None) → Leaves s (Unload p) t
-unload-leaves s t p row dead none = record { row = row; dead = dead; ends = λ end is. ap (λ x. x.end) row.after ∙ is; due = λ r. ap (λ x. due_on x r) row.after ∙ due-set s.due p.0 r (none r) }
+pub direct-leaves : (s t : GuestState) (p : ProcId) (v : VcpuId) → Steps s p.0 v.0 t → IsOff s.around.policy → ((r : ℕ) → due_on s r ≡ None) → Leaves s (Direct p v) t
+direct-leaves s t p v row off none = record { row = row; due = λ r. ap (λ x. due_on x r) row.after ∙ due-noted _ p.0 _ off none r }
 
-pub direct-leaves : (s t : GuestState) (p : ProcId) (v : VcpuId) → Steps s p.0 v.0 t → t.dead ≡ s.dead → IsOff s.around.policy → ((r : ℕ) → due_on s r ≡ None) → Leaves s (Direct p v) t
-direct-leaves s t p v row dead off none = record { row = row; dead = dead; ends = none-ended s t row.goes_on.not_ended; due = λ r. ap (λ x. due_on x r) row.after ∙ due-noted _ p.0 _ off none r }
+pub refill-leaves : (s t : GuestState) (p : ProcId) → Refills s p.0 t → ((r : ℕ) → due_on s r ≡ None) → Leaves s (Refill p) t
+refill-leaves s t p row none = record { row = row; due = λ r. ap (λ x. due_on x r) row.after ∙ none r }
 
-pub refill-leaves : (s t : GuestState) (p : ProcId) → Refills s p.0 t → t.dead ≡ s.dead → ((r : ℕ) → due_on s r ≡ None) → Leaves s (Refill p) t
-refill-leaves s t p row dead none = record { row = row; dead = dead; ends = none-ended s t row.goes_on.not_ended; due = λ r. ap (λ x. due_on x r) row.after ∙ none r }
-
-pub emulate-leaves : (s t : GuestState) (p : ProcId) (v : VcpuId) → Emulates s p.0 v.0 t → t.dead ≡ s.dead → ((r : ℕ) → due_on s r ≡ None) → Leaves s (Emulate p v) t
-emulate-leaves s t p v row dead none = record {
+pub emulate-leaves : (s t : GuestState) (p : ProcId) (v : VcpuId) → Emulates s p.0 v.0 t → ((r : ℕ) → due_on s r ≡ None) → Leaves s (Emulate p v) t
+emulate-leaves s t p v row none = record {
   row = inl row;
-  dead = dead;
-  ends = none-ended s t row.traps.goes_on.not_ended;
   due = λ r. ap (λ x. due_on x r) row.after ∙ ap (λ l. get_or l r None) (act-due s p.0 v.0 _) ∙ none r;
 }
 
@@ -173,10 +159,10 @@ pub emulate-end : (s t : GuestState) (p v : ℕ) → Emulates s p v t → t.end 
 emulate-end s t p v row = ap (λ x. x.end) row.after ∙ act-end s p v _ ∙ row.traps.goes_on.not_ended
 
 pub receive-leaves : (s t : GuestState) (k : ℕ) → Receives s k t → ((r : ℕ) → due_on s r ≡ None) → Leaves s (PacketIn k) t
-receive-leaves s t k row none = record { row = inl row; dead = ap (λ x. x.dead) row.after; ends = none-ended s t row.delivered.goes_on.not_ended; due = λ r. ap (λ x. due_on x r) row.after ∙ none r }
+receive-leaves s t k row none = record { row = inl row; due = λ r. ap (λ x. due_on x r) row.after ∙ none r }
 
-pub end-leaves : (s t : GuestState) (end : End) → s.end ≡ None → Ends s end t → t.dead ≡ s.dead → ((r : ℕ) → due_on s r ≡ None) → Leaves s (Ending end) t
-end-leaves s t end on row dead none = record { row = row; dead = dead; ends = none-ended s t on; due = λ r. ap (λ x. due_on x r) row.after ∙ due-map s.pages s.due r (none r) }
+pub end-leaves : (s t : GuestState) (end : End) → Ends s end t → ((r : ℕ) → due_on s r ≡ None) → Leaves s (Ending end) t
+end-leaves s t end row none = record { row = row; due = λ r. ap (λ x. due_on x r) row.after ∙ due-map s.pages s.due r (none r) }
 
 -- ---- what is loaded
 

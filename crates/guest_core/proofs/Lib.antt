@@ -8,6 +8,7 @@ pub mod ReleaseLemmas
 pub mod KeptProofs
 pub mod RoomLemmas
 pub mod EnterProofs
+pub mod AskingLemmas
 pub mod WiringProofs
 pub mod HandProofs
 pub mod LoadedCells

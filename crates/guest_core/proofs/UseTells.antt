@@ -6,6 +6,7 @@ use Rattle.std.proofs.lemmas.Bool.{eq-eqb, ne_eqb}
 use Rattle.std.proofs.lemmas.List.{length-map}
 use Rattle.std.proofs.lemmas.List.Sums.{sum_by-cons}
 use Rattle.std.proofs.lemmas.Nat.{div_below}
+use Rattle.base_words.specs.Limits.{most_cells}
 use Rattle.base_words.specs.declared.events.End.{End}
 use Rattle.base_words.specs.declared.frame.Shape.{Shape}
 use Rattle.base_words.specs.declared.ids.CellId.{CellId}
@@ -71,7 +72,7 @@ told-so false (suc n) is = absurd (never (is.1 (λ (e : suc n ≡ 0). omega arit
     never e = cc
 
 -- what the counters say of a cell is what the state of a guest that hasn't ended says
-pub counted-use : (s : GuestState) (u : UsesState) (cell : ℕ) (r : Bool) → s.end ≡ None → ((frame : ℕ) → 0 < count_by (is_frame frame) (held s) → frame < frames_around s.around) → cell < 4 → AreUses s u
+pub counted-use : (s : GuestState) (u : UsesState) (cell : ℕ) (r : Bool) → s.end ≡ None → ((frame : ℕ) → 0 < count_by (is_frame frame) (held s) → frame < frames_around s.around) → cell < most_cells → AreUses s u
     → IsTrue r ↔ (total (count_at u cell) ≢ 0) → r ≡ uses s cell
 counted-use s u cell r on within lt are is =
     let there : cell < length u.counts = omega (arith, are.cells) in

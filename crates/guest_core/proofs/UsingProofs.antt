@@ -5,6 +5,7 @@ use Rattle.std.proofs.lemmas.Bool.{eq-eqb}
 use Rattle.std.proofs.lemmas.List.{length-map}
 use Rattle.std.proofs.lemmas.List.Elements.{All-nil, All-cons}
 use Rattle.std.proofs.lemmas.List.Sums.{sum_by-cons}
+use Rattle.base_words.specs.Limits.{most_cells}
 use Rattle.base_words.specs.declared.events.End.{End}
 use Rattle.base_words.specs.declared.events.Event.{Event}
 use Rattle.base_words.specs.declared.frame.Frame.{Frame}
@@ -112,7 +113,7 @@ booted-frames : (fs : List Frame) (memory : List ℕ) → map frame_of (flat_map
 booted-frames [] memory = refl
 booted-frames (f ∷ fs) memory = ap (λ (l : List FrameNo). f.number ∷ l) (booted-frames fs (drop 4096 memory))
 
-pub uses-start : (b : Boot) (fs : List Frame) (shape : Shape) (uses : UsesState) → b.frames ≡ map found_of fs → IsShapeOf b.around shape → length uses.counts ≡ 4
+pub uses-start : (b : Boot) (fs : List Frame) (shape : Shape) (uses : UsesState) → b.frames ≡ map found_of fs → IsShapeOf b.around shape → length uses.counts ≡ most_cells
     → AreCounts shape (record { frames = map (λ (f : Frame). f.number) fs; loaded = [] }) uses → AreUses (started b) uses
 uses-start b fs shape uses from told long are = record {
   shape = shape;

@@ -37,7 +37,7 @@ use Rattle.guest_course.specs.declared.posting.Outgoing.{Outgoing}
 use Rattle.guest_course.specs.Posting.{IsOther, put_on, Goes}
 use Rattle.guest_core.specs.GuestCalls.{step_entries}
 use Rattle.guest_core.specs.TurnParts.{Posts, Concludes}
-use Rattle.guest_core.specs.Wiring.{shown, taken_at, IsWired, Posted, SentOn, TakenOn}
+use Rattle.guest_core.specs.Wiring.{shown, taken_at, IsWired, Posted, SentOn, TakesNext}
 use Rattle.guest_core.specs.Laws.{SendLaws, TakeLaws}
 
 -- ---- whose an end is
@@ -152,23 +152,26 @@ filtered from p b e = ap (λ (x : Bool). cond x (p ∷ []) []) e
 
 taken-in : TakeLaws → (wires : Made) (s t : GuestState) (journal : List Event) (passes new : PassList) (packet : WirePacket) → IsListOf wires passes
     → ((from : ℕ) → map shown (taken_at (taking_from passes from)) ≡ taken_from journal s from)
-    → taken journal t ≡ taken journal s ++ hand_of packet ∷ [] → TakenOn passes (Some packet) new
+    → taken journal t ≡ taken journal s ++ hand_of packet ∷ [] → TakesNext passes packet new
     → (from : ℕ) → map shown (taken_at (taking_from new from)) ≡ taken_from journal t from
-taken-in w wires s t journal passes new packet list old grows on from = by (on.0 == from) refl
+taken-in w wires s t journal passes new packet list old grows on from = by (on.from == from) refl
   where
-    x : TakesFrom passes on.0 (Some packet) new
-    x = on.1
+    x : TakesFrom on.mid on.from (Some packet) new
+    x = on.takes
 
-    sender : packet.from.0 ≡ on.0
-    sender = x.taken.1.sender ∙ sender-of wires on.0 passes.guest.0 x.before.wire (sym (ap taking_wire x.was) ∙ list.takes on.0)
+    stood : taking_from passes on.from ≡ Some x.before
+    stood = sym (on.vain.takes on.from) ∙ x.was
+
+    sender : packet.from.0 ≡ on.from
+    sender = x.taken.1.sender ∙ sender-of wires on.from passes.guest.0 x.before.wire (sym (ap taking_wire stood) ∙ list.takes on.from)
 
     all : taken_from journal t from ≡ taken_from journal s from ++ filter (is_from from) (hand_of packet ∷ [])
     all = ap (filter (is_from from)) grows ∙ filter-append (is_from from) (taken journal s) (hand_of packet ∷ [])
 
-    by : (b : Bool) → (on.0 == from) ≡ b → map shown (taken_at (taking_from new from)) ≡ taken_from journal t from
+    by : (b : Bool) → (on.from == from) ≡ b → map shown (taken_at (taking_from new from)) ≡ taken_from journal t from
     by true e =
-        let at : on.0 ≡ from = eqb-true on.0 from e in
-        let was : taking_from passes from ≡ Some x.before = subst (λ (n : ℕ). taking_from passes n ≡ Some x.before) at x.was in
+        let at : on.from ≡ from = eqb-true on.from from e in
+        let was : taking_from passes from ≡ Some x.before = subst (λ (n : ℕ). taking_from passes n ≡ Some x.before) at stood in
         let now : taking_from new from ≡ Some x.after = subst (λ (n : ℕ). taking_from new n ≡ Some x.after) at x.is in
         ap (λ (y : Option Taking). map shown (taken_at y)) now
         ∙ ap (λ (y : Taking). map shown y.taken) x.taken.0
@@ -177,17 +180,17 @@ taken-in w wires s t journal passes new packet list old grows on from = by (on.0
         ∙ ap (λ (l : List Packet). taken_from journal s from ++ l) (sym (filtered from (hand_of packet) true (ap (λ (n : ℕ). n == from) sender ∙ e)))
         ∙ sym all
     by false e =
-        ap (λ (y : Option Taking). map shown (taken_at y)) (x.only.takes from (λ at. eqb-false on.0 from e (sym at)))
+        ap (λ (y : Option Taking). map shown (taken_at y)) (x.only.takes from (λ at. eqb-false on.from from e (sym at)) ∙ on.vain.takes from)
         ∙ old from
         ∙ sym (append-nil (taken_from journal s from))
         ∙ ap (λ (l : List Packet). taken_from journal s from ++ l) (sym (filtered from (hand_of packet) false (ap (λ (n : ℕ). n == from) sender ∙ e)))
         ∙ sym all
 
 pub posted-comes : TakeLaws → (wires : Made) (s t : GuestState) (journal : List Event) (passes new : PassList) (packet : WirePacket) → IsWired wires passes s.around → Posted s journal passes
-    → ComesToHand s t → t.hand ≡ Some (hand_of packet) → TakenOn passes (Some packet) new → Posted t journal new
+    → ComesToHand s t → t.hand ≡ Some (hand_of packet) → TakesNext passes packet new → Posted t journal new
 posted-comes w wires s t journal passes new packet wired p comes held on = record {
   tells = subst (λ (x : GuestState). All (Tells x) journal) (sym comes.after) p.tells;
-  sent = λ to end is. subst (λ (x : GuestState). AreAccepted 0 (sent_to x to) (map shown end.accepted)) (sym comes.after) (p.sent to end (sym (on.1.only.sends to) ∙ is));
+  sent = λ to end is. subst (λ (x : GuestState). AreAccepted 0 (sent_to x to) (map shown end.accepted)) (sym comes.after) (p.sent to end (sym (on.takes.only.sends to ∙ on.vain.sends to) ∙ is));
   taken = taken-in w wires s t journal passes new packet wired.list p.taken (w.comes s t journal (hand_of packet) comes held) on;
 }
 
@@ -250,7 +253,7 @@ sent-guest passes new None on = on.guest
 sent-guest passes new (Some out) on = on.1.only.guest
 
 pub same-ends : (passes : PassList) → SentOn passes None passes
-same-ends passes = record { guest = refl; sends = λ to. refl; takes = λ from. refl }
+same-ends passes = record { guest = refl; asks = refl; sends = λ to. refl; takes = λ from. refl }
 
 pub fits-out : (wires : Made) (passes : PassList) (s : GuestState) (out : Option Outgoing) → IfSome out (Goes s) → passes.guest.0 ≡ s.around.guest → IfSome out (λ o. Fits (line_between wires passes.guest.0 o.to.0) (packet_of o.packet))
 fits-out wires passes s None goes same = tt

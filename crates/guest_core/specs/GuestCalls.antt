@@ -1,12 +1,12 @@
 -- What each call of a guest does, by its answer: which entries its journal gains, and which notes its seat and the token.
-use Rattle.std.specs.Prelude.{◌≡◌, ℕ, ◌<◌, List, [], ◌∷◌, ◌++◌, length, map, Bool, true, false, if◌then◌else◌, Option, Some, None, unwrap_or, Result, Ok, Err}
+use Rattle.std.specs.Prelude.{◌≡◌, ◌≢◌, ℕ, ◌<◌, ◌≤◌, ◌+◌, List, [], ◌∷◌, ◌++◌, length, map, Bool, true, false, if◌then◌else◌, Option, Some, None, unwrap_or, Result, Ok, Err}
 use Rattle.std.specs.declared.alloc.AllocError.{AllocError}
 use Rattle.base_words.specs.declared.ids.ProcId.{ProcId}
 use Rattle.base_words.specs.declared.ids.VcpuId.{VcpuId}
 use Rattle.base_words.specs.declared.events.Event.{Event}
 use Rattle.base_words.specs.declared.events.Event.TheVariants.{Direct, Refill, Emulate, Load, End as Ending}
 use Rattle.base_words.specs.declared.events.End.{End}
-use Rattle.base_words.specs.declared.events.End.TheVariants.{Halted as ByHalt}
+use Rattle.base_words.specs.declared.events.End.TheVariants.{Halted as ByHalt, Budget}
 use Rattle.base_words.specs.declared.trap.Access.{Access}
 use Rattle.shootdown.specs.declared.notes.Note.{Note}
 use Rattle.shootdown.specs.declared.notes.Note.TheVariants.{Made, Halted, Ended}
@@ -14,8 +14,14 @@ use Rattle.shootdown.specs.Notes.{Token, sided}
 use Rattle.isolation_law.specs.GuestState.{processor, vcpu_of}
 use Rattle.isolation_law.specs.Phases.{all_halted}
 use Rattle.isolation_law.specs.Run.{Run}
+use Rattle.isolation_law.specs.StepAct.{at_hand}
+use Rattle.isolation_law.specs.WireHistory.{sent_to}
+use Rattle.guest_course.specs.declared.posting.Outgoing.{Outgoing}
+use Rattle.guest_course.specs.Posting.{IsOther, put_on}
 use Rattle.guest_course.specs.StepCalls.{StepsDirect}
-use Rattle.guest_core.specs.GuestView.{Monitored}
+use Rattle.guest_course.specs.Wanting.{TakesMemory}
+use Rattle.guest_core.specs.GuestView.{Monitored, IsSameGuest}
+use Rattle.guest_core.specs.Wiring.{SentOn}
 use Rattle.guest_core.specs.declared.answers.Loaded.{Loaded}
 use Rattle.guest_core.specs.declared.answers.Loaded.TheVariants as loaded
 use Rattle.guest_core.specs.declared.answers.Turn.{Turn}
@@ -32,24 +38,59 @@ pub record Stays (old new : Monitored) : Type 0 where
   pub state : new.state ≡ old.state
   pub view : new.view ≡ old.view
 
+-- nor did the ends of the wires change
+pub record Rests (old new : Monitored) : Type 0 where
+  pub stays : Stays old new
+  pub passes : new.passes ≡ old.passes
+
 -- the seat's notes and the token's grew by these
 pub record Learns (old : Monitored) (token : Token) (told : List Note) (new : Monitored) (token_after : Token) : Type 0 where
   pub seat : new.notes ≡ old.notes ++ map (sided token.number) told
   pub token_is : token_after ≡ record token { notes = token.notes ++ map (sided old.number) told }
+
+-- ---- what every call with a token asks, and leaves
+
+-- a token's processor is one of the guest's, and its board the one that made the guest's seat
+pub record MayNote (g : Monitored) (token : Token) : Type 0 where
+  pub board : token.board ≡ g.board
+  pub is_processor : token.number < length g.start.around.processors
+
+-- the token may note with the guest, which hasn't ended for the end of the plan
+pub record MayCall (g : Monitored) (token : Token) : Type 0 where
+  pub notes : MayNote g token
+  pub before : g.state.end ≢ Some Budget
+
+-- this was told, the guest is the same one, and the room of one call is used at most
+pub record Leaves (old : Monitored) (token : Token) (told : List Note) (new : Monitored) (token_after : Token) : Type 0 where
+  pub learns : Learns old token told new token_after
+  pub same : IsSameGuest old new
+  pub room : old.room ≤ new.room + 2
+
+-- the processor of a token, and the virtual processor that is loaded there
+abbrev pub processor_of : Token → ProcId
+processor_of token = record { 0 = token.number }
+
+abbrev pub loaded_on : Monitored → Token → VcpuId
+loaded_on g token = record { 0 = unwrap_or (processor g.state token.number).loaded 0 }
 
 -- ---- load
 
 pub record IsLoadedOn (old : Monitored) (v q : ℕ) (new : Monitored) : Type 0 where
   pub not_ended : old.state.end ≡ None
   pub there : (processor old.state q).loaded ≡ Some v
-  pub stays : Stays old new
+  pub rests : Rests old new
 
 pub record HasEnded (old : Monitored) (end : End) (new : Monitored) : Type 0 where
   pub ended : old.state.end ≡ Some end
-  pub stays : Stays old new
+  pub rests : Rests old new
+
+-- these entries were made, and the ends of the wires stay
+pub record MakesAlone (old : Monitored) (entries : List Event) (new : Monitored) : Type 0 where
+  pub makes : Makes old entries new
+  pub passes : new.passes ≡ old.passes
 
 abbrev pub LoadsVcpu : Monitored → ProcId → VcpuId → Monitored → Loaded → Type 0
-LoadsVcpu old p v new loaded.Done = Makes old (Load p v ∷ []) new
+LoadsVcpu old p v new loaded.Done = MakesAlone old (Load p v ∷ []) new
 LoadsVcpu old p v new (loaded.On q) = IsLoadedOn old v.0 q.0 new
 LoadsVcpu old p v new (loaded.Ended end) = HasEnded old end new
 
@@ -62,7 +103,7 @@ told_of_load p v (loaded.Ended end) = Ended end ∷ []
 
 -- the processor made the step by itself, with these accesses
 pub record TurnsDirect (old : Monitored) (p : ProcId) (v : VcpuId) (access : Access) (new : Monitored) : Type 0 where
-  pub makes : Makes old (Direct p v ∷ []) new
+  pub makes : MakesAlone old (Direct p v ∷ []) new
   pub direct : StepsDirect old.state p.0 v.0 new.state access
 
 -- the entries of a step by the monitor's hand: the step, and the end where it halted the last virtual processor
@@ -73,27 +114,39 @@ step_entries p v false = Emulate p v ∷ []
 abbrev pub end_of : Bool → Option End
 end_of halted = if halted then Some ByHalt else None
 
+-- what was sent to other guests was put on their wires, of which a full one lost it
+pub record SendsOut (old new : Monitored) : Type 0 where
+  pub out : Option Outgoing
+  pub sends : (to : ℕ) → IsOther old.state to → sent_to new.state to ≡ sent_to old.state to ++ put_on out to
+  pub sent : SentOn old.passes out new.passes
+
 pub record TurnsEmulate (old : Monitored) (p : ProcId) (v : VcpuId) (new : Monitored) : Type 0 where
   pub makes : Makes old (step_entries p v (all_halted new.state.vcpus)) new
   pub end : new.state.end ≡ end_of (all_halted new.state.vcpus)
+  pub sends : SendsOut old new
 
 -- the virtual processor that is loaded has halted
 pub record HasHalted (old : Monitored) (v : ℕ) (new : Monitored) : Type 0 where
   pub not_ended : old.state.end ≡ None
   pub halted : (vcpu_of old.state v).halted ≡ true
-  pub stays : Stays old new
+  pub rests : Rests old new
+
+-- no entry was made, and the step at hand takes memory
+pub record WantsMemory (old : Monitored) (v : ℕ) (new : Monitored) : Type 0 where
+  pub rests : Rests old new
+  pub takes : TakesMemory (at_hand old.state v)
 
 abbrev pub TurnAnswers : Monitored → ProcId → VcpuId → Monitored → Turn → Type 0
 TurnAnswers old p v new (turn.Stepped (Some access)) = TurnsDirect old p v access new
 TurnAnswers old p v new (turn.Stepped None) = TurnsEmulate old p v new
-TurnAnswers old p v new turn.Refilled = Makes old (Refill p ∷ []) new
+TurnAnswers old p v new turn.Refilled = MakesAlone old (Refill p ∷ []) new
 TurnAnswers old p v new turn.VcpuHalted = HasHalted old v.0 new
 TurnAnswers old p v new (turn.GuestEnded end) = HasEnded old end new
 
--- a turn of the virtual processor that is loaded; where memory is wanting no entry was made
+-- a turn of the virtual processor that is loaded
 abbrev pub Turns : Monitored → ProcId → VcpuId → Monitored → Result Turn AllocError → Type 0
 Turns old p v new (Ok answer) = TurnAnswers old p v new answer
-Turns old p v new (Err e) = Stays old new
+Turns old p v new (Err e) = WantsMemory old v.0 new
 
 abbrev pub told_of_turn : ProcId → VcpuId → Result Turn AllocError → List Note
 told_of_turn p v (Ok (turn.Stepped (Some access))) = Made (Direct p v) ∷ []
@@ -102,15 +155,3 @@ told_of_turn p v (Ok turn.Refilled) = []
 told_of_turn p v (Ok turn.VcpuHalted) = Halted v ∷ []
 told_of_turn p v (Ok (turn.GuestEnded end)) = Ended end ∷ []
 told_of_turn p v (Err e) = []
-
--- the processor of a token, and the virtual processor that is loaded there
-abbrev pub processor_of : Token → ProcId
-processor_of token = record { 0 = token.number }
-
-abbrev pub loaded_on : Monitored → Token → VcpuId
-loaded_on g token = record { 0 = unwrap_or (processor g.state token.number).loaded 0 }
-
--- a token's processor is one of the guest's, and its board the one that made the guest's seat
-pub record MayNote (g : Monitored) (token : Token) : Type 0 where
-  pub board : token.board ≡ g.board
-  pub is_processor : token.number < length g.start.around.processors

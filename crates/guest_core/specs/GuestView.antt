@@ -14,6 +14,7 @@ use Rattle.wire_queue.specs.declared.lists.PassList.{PassList}
 use Rattle.guest_course.specs.declared.course.Course.{Course}
 use Rattle.guest_course.specs.CourseView.{state_of}
 use Rattle.guest_core.specs.declared.parts.Parts.{Parts}
+use Rattle.guest_core.specs.declared.resources.Resources.{Resources}
 use Rattle.guest_core.specs.Holding.{FitsAround}
 
 -- a guest: its number, what it was started from, the board that made its seat, the table that made its holder; its state, the journal
@@ -79,6 +80,10 @@ pub record IsTableOf (table : MadeTable) (g : Monitored) : Type 0 where
 pub record Shared : Type 0 where
   pub table : MadeTable
   pub wires : Made
+
+-- as they are lent to the guests' calls
+abbrev pub shared_by : Resources → Shared
+shared_by resources = record { table = resources.table.now; wires = resources.wires.now }
 
 -- they are those of a guest
 pub record AreOf (shared : Shared) (g : Monitored) : Type 0 where

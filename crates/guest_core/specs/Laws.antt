@@ -1,16 +1,23 @@
 -- Laws of a guest's entries and of its packets, gathered.
-use Rattle.std.specs.Prelude.{◌≡◌, ℕ, ◌≤◌, List, [], ◌∷◌, ◌++◌, true, All, Some, length, flat_map}
+use Rattle.std.specs.Prelude.{◌≡◌, ℕ, ◌≤◌, List, [], ◌∷◌, ◌++◌, true, false, All, Some, length, flat_map}
+use Rattle.base_words.specs.declared.events.End.{End}
 use Rattle.base_words.specs.declared.events.Event.{Event}
 use Rattle.base_words.specs.declared.events.Event.TheVariants.{PacketIn}
 use Rattle.private_machine.specs.Operation.{Packet}
-use Rattle.isolation_law.specs.GuestState.{GuestState, processor, vcpu_of}
+use Rattle.isolation_law.specs.CellFailure.{end_by, failure_of, is_failure, EndsAs}
+use Rattle.isolation_law.specs.EntryTells.{skip_of, AddsSkips}
+use Rattle.isolation_law.specs.GuestState.{GuestState, processor, vcpu_of, is_dead}
+use Rattle.isolation_law.specs.LiveCells.{UsesLive}
 use Rattle.isolation_law.specs.LoadsIn.{loaded_after}
 use Rattle.isolation_law.specs.MachineEvent.{Row}
 use Rattle.isolation_law.specs.PacketRows.{ComesToHand, Receives}
+use Rattle.isolation_law.specs.Phases.{GoesOn}
 use Rattle.isolation_law.specs.Run.{Run}
+use Rattle.isolation_law.specs.Start.{Boot, start}
+use Rattle.isolation_law.specs.Surroundings.{cell_of_processor}
 use Rattle.isolation_law.specs.WireHistory.{AreAccepted, taken_by, taken, Tells, TakesNothing}
 
--- an entry keeps these of a guest, and a run with an entry is a run
+-- an entry keeps these of a guest, and a run with an entry is a run; what it leaves of skips, failed cells and the end
 pub record RowLaws : Type 0 where
   pub halts : (s t : GuestState) (e : Event) (v : ℕ) → Row s e t → (vcpu_of s v).halted ≡ true → (vcpu_of t v).halted ≡ true
   pub count : (s t : GuestState) (e : Event) → Row s e t → length t.vcpus ≡ length s.vcpus
@@ -18,6 +25,18 @@ pub record RowLaws : Type 0 where
   pub loaded : (s t : GuestState) (e : Event) (r : ℕ) → Row s e t → (processor t r).loaded ≡ loaded_after e r (processor s r).loaded
   pub grows : (s m t : GuestState) (journal : List Event) (e : Event) → Run s journal m → Row m e t → Run s (journal ++ e ∷ []) t
   pub around : (s t : GuestState) (e : Event) → Row s e t → t.around ≡ s.around
+  pub skips : (s t : GuestState) (e : Event) → Row s e t → AddsSkips s.skips (skip_of e) t.skips
+  pub stays_dead : (s t : GuestState) (e : Event) (c : ℕ) → Row s e t → is_dead s c ≡ true → is_dead t c ≡ true
+  pub fails : (s t : GuestState) (e : Event) (c : ℕ) → Row s e t → is_failure c e ≡ true → (is_dead s c ≡ false) × (is_dead t c ≡ true)
+  pub ends : (s t : GuestState) (e : Event) (end : End) → Row s e t → s.end ≡ Some end → t.end ≡ Some end
+  pub outlives : (s t : GuestState) (e : Event) (c : ℕ) → (EndsAs s (end_by c) → ⊥) → Row s e t → EndsAs t (end_by c) → e ≡ failure_of c
+  pub alive : (s : GuestState) (p v : ℕ) → UsesLive s → GoesOn s → (processor s p).loaded ≡ Some v → is_dead s (cell_of_processor s.around p) ≡ false
+
+-- what a run tells of its skips and of failed cells
+pub record RunLaws : Type 0 where
+  pub live : (b : Boot) (journal : List Event) (t : GuestState) → Run (start b) journal t → UsesLive t
+  pub skips : (b : Boot) (journal : List Event) (t : GuestState) → Run (start b) journal t → AddsSkips [] (flat_map skip_of journal) t.skips
+  pub ended : (b : Boot) (journal : List Event) (t : GuestState) (c : ℕ) → Run (start b) journal t → EndsAs t (end_by c) → is_dead t c ≡ true
 
 -- a packet that is sent is accepted, or the wire is full
 pub record SendLaws : Type 0 where

@@ -3,7 +3,9 @@ pub mod Holding
 pub mod Using
 pub mod Wiring
 pub mod GuestView
+pub mod Asks
 pub mod Noting
+pub mod EntryNotes
 pub mod Kept
 pub mod Laws
 pub mod GuestCalls

@@ -4,11 +4,12 @@ use Rattle.std.specs.declared.alloc.AllocError.{AllocError}
 use Rattle.base_words.specs.declared.events.Event.TheVariants.{PacketIn}
 use Rattle.isolation_law.specs.PacketRows.{Receives}
 use Rattle.isolation_law.specs.Run.{Silent}
-use Rattle.wire_queue.specs.ListSteps.{SameEnds}
+use Rattle.wire_queue.specs.ListSteps.{AsksInVain, SameEnds}
 use Rattle.wire_queue.specs.PassLists.{sending_to}
 use Rattle.wire_queue.specs.declared.lists.PassList.{PassList}
 use Rattle.guest_core.specs.GuestView.{Monitored, IsSameGuest}
 use Rattle.guest_core.specs.GuestCalls.{Makes, Stays}
+use Rattle.guest_core.specs.Wiring.{others_of}
 use Rattle.guest_core.specs.declared.answers.Packeted.{Packeted}
 use Rattle.guest_core.specs.declared.answers.Packeted.TheVariants as packeted
 
@@ -22,11 +23,12 @@ pub record NotesNothing (old new : Monitored) : Type 0 where
   pub notes : new.notes ≡ old.notes
   pub view : new.view ≡ old.view
 
--- a packet came to hand, or nothing changed; either makes no entry
+-- a packet came to hand, or nothing changed; either makes no entry. Where none was in hand and none came, each other guest's wire was asked.
 pub record Fetches (old new : Monitored) : Type 0 where
   pub quiet : NotesNothing old new
   pub journal : new.journal ≡ old.journal
   pub silent : Silent old.state new.state
+  pub asked : old.state.hand ≡ None → new.state.hand ≡ None → AsksInVain old.passes new.passes (others_of old.passes)
 
 -- the packet in hand was received; the page isn't armed any more
 pub record ReceivesNext (old new : Monitored) : Type 0 where
@@ -46,10 +48,11 @@ abbrev pub TakesIn : Monitored → Monitored → Result ⊤ AllocError → Type 
 TakesIn old new (Ok done) = ReceivesNext old new
 TakesIn old new (Err e) = new ≡ old
 
--- no wire gave a packet, and none is in hand
+-- none is in hand, and the wire from each other guest was asked and gave none
 pub record HasNoPacket (old new : Monitored) : Type 0 where
   pub armed : IsArmed old
   pub none : old.state.hand ≡ None
+  pub asked : AsksInVain old.passes new.passes (others_of old.passes)
   pub stays : Stays old new
   pub notes : new.notes ≡ old.notes
 

@@ -1,5 +1,5 @@
 -- A guest's ends of its wires, against what it sent and what it took.
-use Rattle.std.specs.Prelude.{◌≡◌, ◌<◌, ℕ, List, [], length, map, All, Option, Some, None}
+use Rattle.std.specs.Prelude.{◌≡◌, ◌<◌, ◌-◌, ◌&&◌, nat_le, nat_lt, if◌then◌else◌, ℕ, List, [], length, map, All, Option, Some, None}
 use Rattle.base_words.specs.declared.events.Event.{Event}
 use Rattle.private_machine.specs.Operation.{Packet}
 use Rattle.isolation_law.specs.GuestState.{GuestState}
@@ -7,7 +7,7 @@ use Rattle.isolation_law.specs.Surroundings.{Surroundings}
 use Rattle.isolation_law.specs.WireHistory.{sent_to, AreAccepted, taken_from, Tells}
 use Rattle.wire_queue.specs.Between.{Made, guest_count}
 use Rattle.wire_queue.specs.Ends.{Sending, Taking}
-use Rattle.wire_queue.specs.ListSteps.{SameEnds, SendsTo, TakesFrom}
+use Rattle.wire_queue.specs.ListSteps.{AsksInVain, SameEnds, SendsTo, TakesFrom}
 use Rattle.wire_queue.specs.Packets.{Packet as OnWire}
 use Rattle.wire_queue.specs.PassLists.{IsListOf, JoinsAll, sending_to, taking_from}
 use Rattle.wire_queue.specs.declared.lists.PassList.{PassList}
@@ -43,7 +43,23 @@ abbrev pub SentOn : PassList → Option Outgoing → PassList → Type 0
 SentOn old None new = SameEnds old new
 SentOn old (Some out) new = (answer : Sent) × SendsTo old out.to.0 out.packet answer new
 
--- a packet was taken from one of the wires, or from none
+-- how many guests but this one have a number from the first on and below the end
+abbrev pub others_in : ℕ → ℕ → ℕ → ℕ
+others_in own first end = (end - first) - (if nat_le first own && nat_lt own end then 1 else 0)
+
+-- how many other guests there are
+abbrev pub others_of : PassList → ℕ
+others_of passes = others_in passes.guest.0 0 (length passes.takes.items)
+
+-- a packet was taken from one of the wires, after others were asked in vain
+pub record TakesNext (old : PassList) (packet : WirePacket) (new : PassList) : Type 0 where
+  pub asked : ℕ
+  pub mid : PassList
+  pub vain : AsksInVain old mid asked
+  pub from : ℕ
+  pub takes : TakesFrom mid from (Some packet) new
+
+-- or the wire from each other guest was asked, and gave none
 abbrev pub TakenOn : PassList → Option WirePacket → PassList → Type 0
-TakenOn old None new = SameEnds old new
-TakenOn old (Some packet) new = (from : ℕ) × TakesFrom old from (Some packet) new
+TakenOn old None new = AsksInVain old new (others_of old)
+TakenOn old (Some packet) new = TakesNext old packet new

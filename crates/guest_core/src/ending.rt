@@ -3,7 +3,7 @@ ghost use Rattle.std.specs.Prelude.{◌≡◌, ◌≢◌, ◌≤◌, [], ◌∷�
 ghost use Rattle.base_words.specs.declared.events.Event.TheVariants.{End as Ending};
 ghost use Rattle.base_words.specs.declared.events.End.TheVariants.{Budget};
 ghost use Rattle.isolation_law.specs.EndRows.{Ends};
-ghost use Rattle.guest_core.specs.GuestView.{guest_of, IsSameGuest, IsTableOf};
+ghost use Rattle.guest_core.specs.GuestView.{guest_of, IsSameGuest, AreOf, shared_by};
 ghost use Rattle.guest_core.specs.Kept.{IsKept};
 ghost use Rattle.guest_core.specs.GuestCalls.{Makes};
 ghost use Rattle.guest_core.specs.Records.{IsRecord};
@@ -21,7 +21,7 @@ impl Parts {
     /// Ends a guest that hasn't ended, since the plan is done.
     pub(crate) fn end_budget(&mut self, resources: &Resources)
         requires kept { IsKept self.old }
-        requires table { IsTableOf resources.now.table.now (guest_of self.old) }
+        requires shared { AreOf (shared_by resources.now) (guest_of self.old) }
         requires room { 2 ≤ (guest_of self.old).room }
         requires not_ended { (guest_of self.old).state.end ≡ None }
         ensures kept { IsKept self.new }

@@ -12,9 +12,9 @@ ghost use Rattle.isolation_law.specs.EndRows.{Ends};
 ghost use Rattle.isolation_law.specs.GuestState.{processor as processor_at};
 ghost use Rattle.guest_core.specs.Starting.{booted_with, MayStart};
 ghost use Rattle.guest_core.specs.Holding.{HasFrames, HoldsFor};
-ghost use Rattle.guest_core.specs.GuestView.{IsAtStart, IsSameGuest, IsTableOf};
+ghost use Rattle.guest_core.specs.GuestView.{IsAtStart, IsSameGuest, AreOf, shared_by};
 ghost use Rattle.guest_core.specs.Noting.{IsNoted, shows_loaded};
-ghost use Rattle.guest_core.specs.GuestCalls.{Makes, Stays, Learns, LoadsVcpu, told_of_load, MayNote, processor_of, loaded_on, Turns, told_of_turn};
+ghost use Rattle.guest_core.specs.GuestCalls.{Makes, MakesAlone, Stays, Leaves, LoadsVcpu, told_of_load, MayNote, MayCall, processor_of, loaded_on, Turns, told_of_turn};
 ghost use Rattle.guest_core.specs.PacketCalls.{IsArmed, KeepsEnds, SameSends, TakesPacket};
 ghost use Rattle.guest_core.specs.Records.{IsRecord};
 ghost use Rattle.guest_core.specs.Wiring.{IsWired, Posted};
@@ -140,35 +140,31 @@ impl Guest {
     /// Loads a virtual processor on the token's processor, on which nothing is loaded. `Ended` exactly where the guest has ended;
     /// else `On` exactly where it is loaded already, on that processor.
     pub fn load_vcpu(&mut self, token: &mut ProcToken, vcpu: VcpuId) -> Loaded
+        requires may { MayCall self.old token.old }
         requires room { 2 ≤ self.old.room }
-        requires token { MayNote self.old token.old }
         requires vcpu { vcpu.0 < self.old.start.vcpus }
         requires free { (processor_at self.old.state token.old.number).loaded ≡ None }
-        requires before { self.old.state.end ≢ Some Budget }
         ensures loads { LoadsVcpu self.old (processor_of token.old) vcpu self.new result }
-        ensures learns { Learns self.old token.old (told_of_load (processor_of token.old) vcpu result) self.new token.new }
-        ensures same { IsSameGuest self.old self.new }
-        ensures room { self.old.room ≤ self.new.room + 2 }
+        ensures leaves { Leaves self.old token.old (told_of_load (processor_of token.old) vcpu result) self.new token.new }
     {
         self.parts.load_vcpu(token, vcpu)
     }
 
     /// Unloads what is loaded on the token's processor. It needs no room.
     pub fn unload(&mut self, token: &mut ProcToken)
-        requires token { MayNote self.old token.old }
+        requires may { MayCall self.old token.old }
         requires loaded { (processor_at self.old.state token.old.number).loaded ≢ None }
-        requires before { self.old.state.end ≢ Some Budget }
-        ensures makes { Makes self.old (Unload (processor_of token.old) ∷ []) self.new }
-        ensures learns { Learns self.old token.old (Made (Unload (processor_of token.old)) ∷ []) self.new token.new }
-        ensures same { IsSameGuest self.old self.new }
+        ensures makes { MakesAlone self.old (Unload (processor_of token.old) ∷ []) self.new }
+        ensures leaves { Leaves self.old token.old (Made (Unload (processor_of token.old)) ∷ []) self.new token.new }
         ensures room { self.old.room ≤ self.new.room }
     {
         self.parts.unload(token);
     }
 
     /// The virtual processor that is loaded on the token's processor has its turn: `GuestEnded` exactly where the guest has ended, else
-    /// `VcpuHalted` exactly where it has halted; else one step of its own or one refill. Want of memory comes only at a send or a disk write,
-    /// and then no entry was made. The step that halts the last virtual processor ends the guest, which gives all its frames back.
+    /// `VcpuHalted` exactly where it has halted; else one step of its own or one refill. What a step sends to another guest is put on their
+    /// wire, or lost where that is full. Want of memory comes only at a send that is made or a disk write that is carried out, and then no
+    /// entry was made. The step that halts the last virtual processor ends the guest, which gives all its frames back.
     #[inline(always)]
     pub fn turn<R: Wait>(
         &mut self,
@@ -177,16 +173,12 @@ impl Guest {
         token: &mut ProcToken,
         resources: &Resources,
     ) -> Result<Turn, AllocError>
+        requires may { MayCall self.old token.old }
         requires room { 2 ≤ self.old.room }
-        requires table { IsTableOf resources.now.table.now self.old }
-        requires wires { self.old.wires ≡ resources.now.wires.now }
-        requires token { MayNote self.old token.old }
+        requires shared { AreOf (shared_by resources.now) self.old }
         requires loaded { (processor_at self.old.state token.old.number).loaded ≢ None }
-        requires before { self.old.state.end ≢ Some Budget }
         ensures turns { Turns self.old (processor_of token.old) (loaded_on self.old token.old) self.new result }
-        ensures learns { Learns self.old token.old (told_of_turn (processor_of token.old) (loaded_on self.old token.old) result) self.new token.new }
-        ensures same { IsSameGuest self.old self.new }
-        ensures room { self.old.room ≤ self.new.room + 2 }
+        ensures leaves { Leaves self.old token.old (told_of_turn (processor_of token.old) (loaded_on self.old token.old) result) self.new token.new }
     {
         self.parts.turn(rt, alloc, token, resources)
     }
@@ -232,7 +224,7 @@ impl Guest {
     /// Ends a guest that hasn't ended, since the plan is done. It gives all its frames back.
     pub fn end_budget(&mut self, resources: &Resources)
         requires room { 2 ≤ self.old.room }
-        requires table { IsTableOf resources.now.table.now self.old }
+        requires shared { AreOf (shared_by resources.now) self.old }
         requires not_ended { self.old.state.end ≡ None }
         ensures makes { Makes self.old (Ending Budget ∷ []) self.new }
         ensures row { Ends self.old.state Budget self.new.state }

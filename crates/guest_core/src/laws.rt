@@ -1,18 +1,28 @@
 //! Laws of a guest's entries and of its packets, gathered for the calls that make entries.
-ghost use Rattle.guest_core.specs.Laws.{RowLaws, SendLaws, TakeLaws};
+ghost use Rattle.guest_core.specs.Laws.{RowLaws, RunLaws, SendLaws, TakeLaws};
 
-use isolation_law::{halts_stay, row_keeps, run_grows, sends, takes};
+use isolation_law::{
+    entries_tell, failures_stay, goes_on_alive, halts_stay, isolation_from, journals_tell,
+    row_keeps, run_grows, sends, start_holds, takes,
+};
 
-/// What an entry keeps, and what becomes of packets that are sent and taken.
+/// What an entry and a run keep and tell, and what becomes of packets that are sent and taken.
 #[inline]
 pub(crate) fn laws()
     ensures rows { RowLaws }
+    ensures runs { RunLaws }
     ensures sends { SendLaws }
     ensures takes { TakeLaws }
 {
+    entries_tell();
+    failures_stay();
+    goes_on_alive();
     halts_stay();
+    isolation_from();
+    journals_tell();
     row_keeps();
     run_grows();
     sends();
+    start_holds();
     takes();
 }

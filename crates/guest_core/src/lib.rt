@@ -21,5 +21,8 @@ mod wiring;
 
 pub use answers::{Loaded, Packeted, Turn};
 pub use guest::Guest;
-pub use records::{Cut, GuestRecord, RecordList, RunRecord, SliceList, SliceRecord};
+pub use records::{
+    Cut, FailureList, FailureRecord, GuestList, GuestRecord, RecordList, RunRecord, SliceList,
+    SliceRecord,
+};
 pub use resources::Resources;

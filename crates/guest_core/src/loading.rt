@@ -1,12 +1,11 @@
 //! Which virtual processor is loaded on which processor.
-ghost use Rattle.std.specs.Prelude.{◌≡◌, ◌≢◌, ◌<◌, ◌≤◌, ◌+◌, [], ◌∷◌, None, Some};
+ghost use Rattle.std.specs.Prelude.{◌≡◌, ◌≢◌, ◌<◌, ◌≤◌, [], ◌∷◌, None};
 ghost use Rattle.base_words.specs.declared.events.Event.TheVariants.{Unload};
-ghost use Rattle.base_words.specs.declared.events.End.TheVariants.{Budget};
 ghost use Rattle.shootdown.specs.declared.notes.Note.TheVariants.{Made};
 ghost use Rattle.isolation_law.specs.GuestState.{processor as processor_at};
-ghost use Rattle.guest_core.specs.GuestView.{guest_of, IsSameGuest};
+ghost use Rattle.guest_core.specs.GuestView.{guest_of};
 ghost use Rattle.guest_core.specs.Kept.{IsKept};
-ghost use Rattle.guest_core.specs.GuestCalls.{Makes, Learns, LoadsVcpu, told_of_load, MayNote, processor_of};
+ghost use Rattle.guest_core.specs.GuestCalls.{MakesAlone, Leaves, LoadsVcpu, told_of_load, MayCall, processor_of};
 
 use crate::Loaded;
 use crate::laws::laws;
@@ -21,17 +20,13 @@ impl Parts {
     /// else `On` exactly where it is loaded already, on that processor.
     pub(crate) fn load_vcpu(&mut self, token: &mut ProcToken, vcpu: VcpuId) -> Loaded
         requires kept { IsKept self.old }
+        requires may { MayCall (guest_of self.old) token.old }
         requires room { 2 ≤ (guest_of self.old).room }
-        requires token { MayNote (guest_of self.old) token.old }
         requires vcpu { vcpu.0 < (guest_of self.old).start.vcpus }
         requires free { (processor_at (guest_of self.old).state token.old.number).loaded ≡ None }
-        requires before { (guest_of self.old).state.end ≢ Some Budget }
         ensures kept { IsKept self.new }
         ensures loads { LoadsVcpu (guest_of self.old) (processor_of token.old) vcpu (guest_of self.new) result }
-        ensures learns { Learns (guest_of self.old) token.old (told_of_load (processor_of token.old) vcpu result) (guest_of self.new) token.new }
-        ensures same { IsSameGuest (guest_of self.old) (guest_of self.new) }
-        ensures room { (guest_of self.old).room ≤ (guest_of self.new).room + 2 }
-        ensures passes { self.new.wiring ≡ self.old.wiring }
+        ensures leaves { Leaves (guest_of self.old) token.old (told_of_load (processor_of token.old) vcpu result) (guest_of self.new) token.new }
     {
         exchanges();
         laws();
@@ -54,15 +49,12 @@ impl Parts {
     /// Unloads what is loaded on the token's processor. It needs no room.
     pub(crate) fn unload(&mut self, token: &mut ProcToken)
         requires kept { IsKept self.old }
-        requires token { MayNote (guest_of self.old) token.old }
+        requires may { MayCall (guest_of self.old) token.old }
         requires loaded { (processor_at (guest_of self.old).state token.old.number).loaded ≢ None }
-        requires before { (guest_of self.old).state.end ≢ Some Budget }
         ensures kept { IsKept self.new }
-        ensures makes { Makes (guest_of self.old) (Unload (processor_of token.old) ∷ []) (guest_of self.new) }
-        ensures learns { Learns (guest_of self.old) token.old (Made (Unload (processor_of token.old)) ∷ []) (guest_of self.new) token.new }
-        ensures same { IsSameGuest (guest_of self.old) (guest_of self.new) }
+        ensures makes { MakesAlone (guest_of self.old) (Unload (processor_of token.old) ∷ []) (guest_of self.new) }
+        ensures leaves { Leaves (guest_of self.old) token.old (Made (Unload (processor_of token.old)) ∷ []) (guest_of self.new) token.new }
         ensures room { (guest_of self.old).room ≤ (guest_of self.new).room }
-        ensures passes { self.new.wiring ≡ self.old.wiring }
     {
         exchanges();
         laws();

@@ -1,14 +1,16 @@
 //! What the monitor does for a virtual processor that trapped.
-ghost use Rattle.std.specs.Prelude.{◌≡◌, ◌<◌, ◌≤◌, ◌+◌, length};
+ghost use Rattle.std.specs.Prelude.{◌≡◌, ◌<◌, ◌≤◌, ◌+◌, OnErr, length};
 ghost use Rattle.std.specs.Vec.{vec_len, vec_capacity};
+ghost use Rattle.isolation_law.specs.StepAct.{at_hand};
 ghost use Rattle.guest_course.specs.CourseView.{state_of};
 ghost use Rattle.guest_course.specs.CourseRules.{IsSound};
 ghost use Rattle.guest_course.specs.StepCalls.{MayStep, TrapsFor};
 ghost use Rattle.guest_course.specs.LeavingCalls.{UsesCell};
+ghost use Rattle.guest_course.specs.Wanting.{TakesMemory};
 ghost use Rattle.guest_core.specs.TurnParts.{Serves, GoesOnThen, Posts, out_of};
 
 use base_words::{ProcId, TrapCause, VcpuId};
-use guest_course::{Course, Entry, Outgoing};
+use guest_course::{Course, Entry, Outgoing, acts_take_memory};
 use isolation_law::row_keeps;
 use std::alloc::{AllocError, Global};
 
@@ -21,8 +23,8 @@ pub(crate) enum Served {
     Emulate(Option<Outgoing>),
 }
 
-/// Serves a trap, with the act that may be left of the step. Want of memory comes only at a send or a disk write, and then nothing has
-/// changed.
+/// Serves a trap, with the act that may be left of the step. Want of memory comes only at a send that is made or a disk write that is
+/// carried out, and then nothing has changed.
 pub(crate) fn serve(
     course: &mut Course,
     alloc: Global,
@@ -45,8 +47,10 @@ pub(crate) fn serve(
     ensures cells { UsesCell course.old.sent_from course.new.sent_from }
     ensures received { course.new.received ≡ course.old.received }
     ensures posts { Posts (state_of course.old) (out_of result) (state_of course.new) }
+    ensures wanting { OnErr result (TakesMemory (at_hand (state_of course.old) vcpu.0)) }
 {
     row_keeps();
+    acts_take_memory();
     match course.serve(processor, vcpu, cause) {
         Entry::Refill => Ok(Served::Refill),
         Entry::Emulate => Ok(Served::Emulate(None)),

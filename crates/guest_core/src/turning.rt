@@ -1,6 +1,5 @@
 //! One turn of a virtual processor.
 ghost use Rattle.std.specs.Prelude.{◌≡◌, ◌≢◌, ◌<◌, ◌≤◌, ◌+◌, ◌++◌, None, Some, length};
-ghost use Rattle.base_words.specs.declared.events.End.TheVariants.{Budget};
 ghost use Rattle.frame_words.specs.Holders.{IsMade};
 ghost use Rattle.isolation_law.specs.GuestState.{processor as processor_at};
 ghost use Rattle.isolation_law.specs.Phases.{all_halted};
@@ -8,9 +7,9 @@ ghost use Rattle.guest_course.specs.CourseView.{state_of};
 ghost use Rattle.guest_course.specs.CourseRules.{IsSound};
 ghost use Rattle.guest_course.specs.StepCalls.{TrapsFor};
 ghost use Rattle.guest_core.specs.Holding.{HasFrames, FitsAround};
-ghost use Rattle.guest_core.specs.GuestView.{guest_of, IsSameGuest, IsTableOf};
+ghost use Rattle.guest_core.specs.GuestView.{guest_of, AreOf, shared_by};
 ghost use Rattle.guest_core.specs.Kept.{IsKept};
-ghost use Rattle.guest_core.specs.GuestCalls.{Learns, MayNote, processor_of, loaded_on, step_entries, Turns, told_of_turn};
+ghost use Rattle.guest_core.specs.GuestCalls.{Leaves, MayCall, processor_of, loaded_on, step_entries, Turns, told_of_turn};
 ghost use Rattle.guest_core.specs.TurnParts.{Concludes, MayRun};
 ghost use Rattle.guest_core.specs.Using.{AreUses};
 
@@ -79,18 +78,15 @@ impl Parts {
         cause: TrapCause,
     ) -> Result<Turn, AllocError>
         requires kept { IsKept self.old }
+        requires may { MayCall (guest_of self.old) token.old }
         requires room { 2 ≤ (guest_of self.old).room }
-        requires token { MayNote (guest_of self.old) token.old }
-        requires table { IsTableOf resources.now.table.now (guest_of self.old) }
-        requires wires { (guest_of self.old).wires ≡ resources.now.wires.now }
+        requires shared { AreOf (shared_by resources.now) (guest_of self.old) }
         requires loaded { (processor_at (guest_of self.old).state token.old.number).loaded ≡ Some vcpu.0 }
         requires runs { MayRun (guest_of self.old).state vcpu.0 }
         requires traps { TrapsFor (guest_of self.old).state token.old.number vcpu.0 cause }
         ensures kept { IsKept self.new }
         ensures turns { Turns (guest_of self.old) (processor_of token.old) vcpu (guest_of self.new) result }
-        ensures learns { Learns (guest_of self.old) token.old (told_of_turn (processor_of token.old) vcpu result) (guest_of self.new) token.new }
-        ensures same { IsSameGuest (guest_of self.old) (guest_of self.new) }
-        ensures room { (guest_of self.old).room ≤ (guest_of self.new).room + 2 }
+        ensures leaves { Leaves (guest_of self.old) token.old (told_of_turn (processor_of token.old) vcpu result) (guest_of self.new) token.new }
     {
         exchanges();
         laws();
@@ -129,17 +125,14 @@ impl Parts {
         resources: &Resources,
     ) -> Result<Turn, AllocError>
         requires kept { IsKept self.old }
+        requires may { MayCall (guest_of self.old) token.old }
         requires room { 2 ≤ (guest_of self.old).room }
-        requires token { MayNote (guest_of self.old) token.old }
-        requires table { IsTableOf resources.now.table.now (guest_of self.old) }
-        requires wires { (guest_of self.old).wires ≡ resources.now.wires.now }
+        requires shared { AreOf (shared_by resources.now) (guest_of self.old) }
         requires loaded { (processor_at (guest_of self.old).state token.old.number).loaded ≡ Some vcpu.0 }
         requires runs { MayRun (guest_of self.old).state vcpu.0 }
         ensures kept { IsKept self.new }
         ensures turns { Turns (guest_of self.old) (processor_of token.old) vcpu (guest_of self.new) result }
-        ensures learns { Learns (guest_of self.old) token.old (told_of_turn (processor_of token.old) vcpu result) (guest_of self.new) token.new }
-        ensures same { IsSameGuest (guest_of self.old) (guest_of self.new) }
-        ensures room { (guest_of self.old).room ≤ (guest_of self.new).room + 2 }
+        ensures leaves { Leaves (guest_of self.old) token.old (told_of_turn (processor_of token.old) vcpu result) (guest_of self.new) token.new }
     {
         exchanges();
         laws();
@@ -165,18 +158,15 @@ impl Parts {
         resources: &Resources,
     ) -> Result<Turn, AllocError>
         requires kept { IsKept self.old }
+        requires may { MayCall (guest_of self.old) token.old }
         requires room { 2 ≤ (guest_of self.old).room }
-        requires token { MayNote (guest_of self.old) token.old }
-        requires table { IsTableOf resources.now.table.now (guest_of self.old) }
-        requires wires { (guest_of self.old).wires ≡ resources.now.wires.now }
+        requires shared { AreOf (shared_by resources.now) (guest_of self.old) }
         requires loaded { (processor_at (guest_of self.old).state token.old.number).loaded ≢ None }
-        requires before { (guest_of self.old).state.end ≢ Some Budget }
         ensures kept { IsKept self.new }
         ensures turns { Turns (guest_of self.old) (processor_of token.old) (loaded_on (guest_of self.old) token.old) (guest_of self.new) result }
-        ensures learns { Learns (guest_of self.old) token.old (told_of_turn (processor_of token.old) (loaded_on (guest_of self.old) token.old) result) (guest_of self.new) token.new }
-        ensures same { IsSameGuest (guest_of self.old) (guest_of self.new) }
-        ensures room { (guest_of self.old).room ≤ (guest_of self.new).room + 2 }
+        ensures leaves { Leaves (guest_of self.old) token.old (told_of_turn (processor_of token.old) (loaded_on (guest_of self.old) token.old) result) (guest_of self.new) token.new }
     {
+        laws();
         if let Some(end) = self.course.ended {
             note(token, &mut self.seat, Note::Ended(end));
             return Ok(Turn::GuestEnded(end));

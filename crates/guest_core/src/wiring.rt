@@ -1,11 +1,11 @@
 //! A guest's ends of its wires.
-ghost use Rattle.std.specs.Prelude.{◌≡◌, ◌<◌, ◌≤◌, IfSome, IsSome};
+ghost use Rattle.std.specs.Prelude.{◌≡◌, ◌<◌, ◌≤◌, IfSome, IfNone, IsSome};
 ghost use Rattle.wire_queue.specs.Between.{guest_count, line_between};
 ghost use Rattle.wire_queue.specs.Lines.{Fits};
-ghost use Rattle.wire_queue.specs.ListSteps.{HasTaken, SameEnds};
+ghost use Rattle.wire_queue.specs.ListSteps.{AsksInVain, HasTaken, SameEnds};
 ghost use Rattle.wire_queue.specs.Packets.{packet_of};
 ghost use Rattle.wire_queue.specs.PassLists.{IsListOf, JoinsAll, sending_to, taking_from};
-ghost use Rattle.guest_core.specs.Wiring.{SentOn, TakenOn};
+ghost use Rattle.guest_core.specs.Wiring.{SentOn, TakesNext, TakenOn, others_in};
 
 use base_words::GuestId;
 use guest_course::Outgoing;
@@ -61,6 +61,37 @@ impl Wiring {
         self.passes.has_taken(rt, wires, &mut from.passes)
     }
 
+    /// Asks the wires from the other guests of these numbers, in order, until one gives a packet.
+    fn ask<R: Wait>(
+        &mut self,
+        rt: &R,
+        wires: &Wires,
+        first: usize,
+        end: usize,
+    ) -> Option<WirePacket>
+        requires list { IsListOf wires.now self.old.passes }
+        requires joins { JoinsAll wires.now }
+        requires few { guest_count wires.now ≤ 8 }
+        requires is_guest { self.old.passes.guest.0 < guest_count wires.now }
+        requires within { (first ≤ end) × (end ≤ guest_count wires.now) }
+        ensures list { IsListOf wires.now self.new.passes }
+        ensures none { IfNone result (AsksInVain self.old.passes self.new.passes (others_in self.old.passes.guest.0 first end)) }
+        ensures some { IfSome result (λ packet. TakesNext self.old.passes packet self.new.passes) }
+        ensures wires { self.new.wires ≡ self.old.wires }
+    {
+        for from in first..end {
+            let from = GuestId(from as u8);
+            if from == self.passes.guest {
+                continue;
+            }
+            if let Some(packet) = self.passes.receive(rt, wires, from) {
+                self.last = from;
+                return Some(packet);
+            }
+        }
+        None
+    }
+
     /// Asks the wires in order of sender, beginning after the one from which the last packet came, until one gives a packet.
     pub(crate) fn next<R: Wait>(&mut self, rt: &R, wires: &Wires) -> Option<WirePacket>
         requires list { IsListOf wires.now self.old.passes }
@@ -72,17 +103,10 @@ impl Wiring {
         ensures wires { self.new.wires ≡ self.old.wires }
     {
         let guests = self.passes.takes.len();
-        let last = self.last.0 as usize;
-        for past in 1..guests + 1 {
-            let from = GuestId(((last + past) % guests) as u8);
-            if from == self.passes.guest {
-                continue;
-            }
-            if let Some(packet) = self.passes.receive(rt, wires, from) {
-                self.last = from;
-                return Some(packet);
-            }
+        let start = guests.min(self.last.0 as usize + 1);
+        if let Some(packet) = self.ask(rt, wires, start, guests) {
+            return Some(packet);
         }
-        None
+        self.ask(rt, wires, 0, start)
     }
 }

@@ -32,7 +32,7 @@ abbrev status : GuestState → ℕ → ℕ → ℕ
 status s v command = disk_status (content s) (set_by s v) command
 
 -- where such a command leads, and what it does with a page
-abbrev acts_by : Transfer → ℕ → Bool → Act
+abbrev pub acts_by : Transfer → ℕ → Bool → Act
 acts_by t command done = if not done then NoAct else if command == 1 then ReadsDisk t.block t.page else WritesDisk t.block t.page
 
 command-leads : (s : GuestState) (v command : ℕ) → Stores (joined (content s) v) v (attempted (joined (content s) v) v) (at_hand s v) command DiskCommand
@@ -44,7 +44,7 @@ command-leads s v command stores =
     let there = same-status m n (set_by s v) (transfer_of n.devices v) command (joined-disk m v) (joined-pages m v) same in
     stores.leads ∙ (λ i. Ok (commanded n v (same i) command (there i)))
 
-command-does : (s : GuestState) (v command : ℕ) → Stores (joined (content s) v) v (attempted (joined (content s) v) v) (at_hand s v) command DiskCommand
+pub command-does : (s : GuestState) (v command : ℕ) → Stores (joined (content s) v) v (attempted (joined (content s) v) v) (at_hand s v) command DiskCommand
     → at_hand s v ≡ acts_by (set_by s v) command (status s v command == 0)
 command-does s v command stores =
     let m = content s in

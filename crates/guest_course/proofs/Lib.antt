@@ -22,6 +22,7 @@ pub mod TaskLemmas
 pub mod TaskRows
 pub mod CommandRows
 pub mod SendRows
+pub mod WantingLemmas
 pub mod LeaveProofs
 pub mod ReceivingProofs
 pub mod PostingProofs

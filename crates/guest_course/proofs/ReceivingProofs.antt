@@ -1,5 +1,5 @@
 -- A packet that is copied into the page that is armed is its row, and keeps what holds of a guest.
-use Rattle.std.proofs.Common.{◌≡◌, ℕ, zero, suc, ◌&&◌, ◌++◌, ◌∷◌, [], Bool, true, false, List, Option, Some, None, length, map, replicate, get_or, refl, sym, ap, ◌∙◌, length-set}
+use Rattle.std.proofs.Common.{◌≡◌, ℕ, ◌&&◌, ◌++◌, ◌∷◌, [], Bool, true, false, List, Option, Some, None, length, map, replicate, get_or, refl, sym, ap, ◌∙◌, length-set}
 use Rattle.std.proofs.lemmas.List.{length-map, map-append}
 use Rattle.private_machine.specs.declared.vcpu.Vcpu.{Vcpu}
 use Rattle.private_machine.specs.Vcpu.{no_vcpu, with_line_on}
@@ -15,7 +15,6 @@ use Rattle.isolation_law.specs.GuestState.{processor}
 use Rattle.isolation_law.specs.Content.{content}
 use Rattle.isolation_law.specs.PacketRows.{Receives, with_received}
 use Rattle.isolation_law.specs.Phases.{GoesOn, all_halted}
-use Rattle.isolation_law.specs.Start.{no_cells}
 use Rattle.guest_course.specs.declared.course.Course.{Course}
 use Rattle.guest_course.specs.declared.got.GotPacket.{GotPacket}
 use Rattle.guest_course.specs.CourseView.{state_of, got_of}

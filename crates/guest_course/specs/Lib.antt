@@ -11,6 +11,7 @@ pub mod EmulateCalls
 pub mod BootCalls
 pub mod EntryCalls
 pub mod Tasks
+pub mod Wanting
 pub mod LeavingCalls
 pub mod ReceivingCalls
 pub mod Packets

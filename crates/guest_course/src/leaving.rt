@@ -21,6 +21,7 @@ ghost use Rattle.guest_course.specs.Tasks.{IsThere, done_page, done_cells, done_
 ghost use Rattle.guest_course.specs.LeavingCalls.{passing, passed, UsesCell};
 ghost use Rattle.guest_course.specs.Packets.{TakesNothing};
 ghost use Rattle.guest_course.specs.Posting.{posted};
+ghost use Rattle.guest_course.specs.Wanting.{MayWant, Writes};
 
 use crate::course::Course;
 use crate::stepping::tick;
@@ -81,6 +82,7 @@ impl Course {
         ensures same { self.new ≡ record self.old { disk = self.new.disk } }
         ensures saved { OnOk result (self.new.disk ≡ done_disk self.old.pmap.pages task.now self.old.disk) }
         ensures err { OnErr result (self.new ≡ self.old) }
+        ensures wanting { OnErr result (Writes task.now) }
     {
         if let Task::Write(block, page) = task {
             self.disk.write_block(*block, self.pmap.page(*page))?;
@@ -144,8 +146,8 @@ impl Course {
         }
     }
 
-    /// Makes the step of which this act is left. Want of memory comes only at a send and where the guest writes a block for the first
-    /// time, and then nothing has changed.
+    /// Makes the step of which this act is left. Want of memory comes only at a send that is made and at a disk write that is carried
+    /// out, and then nothing has changed.
     pub fn carry_out(&mut self, alloc: Global, vcpu: VcpuId, act: DevAct) -> Result<(), AllocError>
         requires sound { IsSound self.old }
         requires left { (p : ℕ) × LeavesAct (state_of self.old) p vcpu.0 act (state_of self.old) }
@@ -154,6 +156,7 @@ impl Course {
         ensures sound { IsSound self.new }
         ensures emulates { OnOk result ((p : ℕ) → IsEmulated (state_of self.old) p vcpu.0 → Emulates (state_of self.old) p vcpu.0 (state_of self.new)) }
         ensures unchanged { OnErr result (self.new ≡ self.old) }
+        ensures wanting { OnErr result (MayWant (state_of self.old) vcpu.0 act) }
         ensures stays { StaysLoaded (state_of self.old) (state_of self.new) }
         ensures print_room { self.new.devs.print_room ≡ self.old.devs.print_room }
         ensures send_room { self.old.devs.send_room ≤ self.new.devs.send_room + 1 }

@@ -22,6 +22,7 @@ mod refilling;
 mod site;
 mod stepping;
 mod task;
+mod wanting;
 
 pub use course::Course;
 pub use emulating::Emulation;
@@ -32,6 +33,7 @@ pub use posting::Outgoing;
 pub use refilling::Refill;
 pub use site::{Around, Site};
 pub use task::Parcel;
+pub use wanting::acts_take_memory;
 
 #[cfg(test)]
 mod tests;

@@ -14,6 +14,3 @@ pub use registers::device_register;
 
 /// What a load of the input register answers where no byte waits, and one of the armed page where none is.
 pub(crate) const NOTHING: u32 = 0xFFFF_FFFF;
-
-#[cfg(test)]
-mod tests;

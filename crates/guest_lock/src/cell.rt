@@ -3,6 +3,7 @@ ghost use Rattle.std.specs.Prelude.{◌≡◌, ◌≢◌, ◌⊎◌, ◌≤◌, 
 ghost use Rattle.base_words.specs.declared.events.Event.TheVariants.{Unload};
 ghost use Rattle.shootdown.specs.declared.notes.Note.TheVariants.{Made};
 ghost use Rattle.guest_core.specs.GuestCalls.{processor_of, told_of_turn};
+ghost use Rattle.guest_core.specs.GuestView.{shared_by};
 ghost use Rattle.guest_lock.specs.declared.burst.Stop.TheVariants.{Paused};
 ghost use Rattle.guest_lock.specs.Fits.{Fits, HasVcpu};
 ghost use Rattle.guest_lock.specs.Told.{with_told, shown, vcpu_shown, told_of_loading, HasWaited, Bursts};
@@ -77,8 +78,7 @@ impl<N: Starts, const G: u8> GuestCell<N, G> {
     ) -> Result<Turn, AllocError>
         requires token { Fits N.starts N.board token.old }
         requires loaded { shown G token.old ≢ None }
-        requires table { resources.now.table.now ≡ N.shared.table }
-        requires wires { resources.now.wires.now ≡ N.shared.wires }
+        requires shared { shared_by resources.now ≡ N.shared }
         ensures { token.new ≡ with_told token.old G (told_of_turn (processor_of token.old) (vcpu_shown G token.old) result) }
     {
         let mut kept = self.guest.lock(rt);
@@ -104,8 +104,7 @@ impl<N: Starts, const G: u8> GuestCell<N, G> {
     ) -> Burst
         requires token { Fits N.starts N.board token.old }
         requires loaded { shown G token.old ≢ None }
-        requires table { resources.now.table.now ≡ N.shared.table }
-        requires wires { resources.now.wires.now ≡ N.shared.wires }
+        requires shared { shared_by resources.now ≡ N.shared }
         ensures few { result.steps ≤ steps }
         ensures whole { result.stop ≡ Paused → (result.steps ≡ steps) ⊎ (result.turns ≡ BURST_TURNS) }
         ensures told { Bursts token.old G result token.new }

@@ -3,10 +3,11 @@ ghost use Rattle.std.specs.Prelude.{◌≡◌, ◌≢◌, ◌⊎◌, ◌≤◌, 
 ghost use Rattle.base_words.specs.declared.events.End.TheVariants.{Budget};
 ghost use Rattle.base_words.specs.declared.events.Event.TheVariants.{Unload};
 ghost use Rattle.shootdown.specs.declared.notes.Note.TheVariants.{Made};
-ghost use Rattle.guest_core.specs.GuestView.{AreOf};
+ghost use Rattle.guest_core.specs.GuestView.{AreOf, shared_by};
 ghost use Rattle.guest_core.specs.GuestCalls.{processor_of, told_of_turn};
 ghost use Rattle.guest_lock.specs.declared.burst.Stop.TheVariants.{Paused};
 ghost use Rattle.guest_lock.specs.Fits.{Fits, HasVcpu};
+ghost use Rattle.guest_lock.specs.Receiving.{HasCalled};
 ghost use Rattle.guest_lock.specs.Told.{with_told, shown, vcpu_shown, told_of_loading, AreInStep, Bursts};
 
 use crate::Starts;
@@ -65,7 +66,8 @@ impl<N: Starts, const G: u8> Kept<N, G> {
         resources: &Resources,
     ) -> Result<(), AllocError>
         requires room { 2 ≤ self.old.guest.room }
-        requires wires { resources.now.wires.now ≡ N.shared.wires }
+        requires shared { shared_by resources.now ≡ N.shared }
+        ensures called { HasCalled self.old.guest self.new.guest }
         ensures room { OnOk result (2 ≤ self.new.guest.room) }
         ensures notes { self.new.guest.notes ≡ self.old.guest.notes }
     {
@@ -97,8 +99,7 @@ impl<N: Starts, const G: u8> Kept<N, G> {
         requires token { Fits N.starts N.board token.old }
         requires in_step { AreInStep token.old self.old.guest }
         requires loaded { shown G token.old ≢ None }
-        requires table { resources.now.table.now ≡ N.shared.table }
-        requires wires { resources.now.wires.now ≡ N.shared.wires }
+        requires shared { shared_by resources.now ≡ N.shared }
         ensures told { token.new ≡ with_told token.old G (told_of_turn (processor_of token.old) (vcpu_shown G token.old) result) }
         ensures in_step { AreInStep token.new self.new.guest }
     {
@@ -124,8 +125,7 @@ impl<N: Starts, const G: u8> Kept<N, G> {
     ) -> Burst
         requires token { Fits N.starts N.board token.old }
         requires loaded { shown G token.old ≢ None }
-        requires table { resources.now.table.now ≡ N.shared.table }
-        requires wires { resources.now.wires.now ≡ N.shared.wires }
+        requires shared { shared_by resources.now ≡ N.shared }
         ensures few { result.steps ≤ steps }
         ensures whole { result.stop ≡ Paused → (result.steps ≡ steps) ⊎ (result.turns ≡ BURST_TURNS) }
         ensures told { Bursts token.old G result token.new }

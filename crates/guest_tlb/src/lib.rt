@@ -7,6 +7,3 @@ mod tlb;
 
 pub use base_words::{Entry, TlbAnswer};
 pub use tlb::Tlb48;
-
-#[cfg(test)]
-mod tests;

@@ -9,6 +9,3 @@ mod stepping;
 pub use base_words::{Access, DataAccess, HwStep, TrapCause};
 pub use bus::Bus;
 pub use stepping::step;
-
-#[cfg(test)]
-mod tests;

@@ -10,6 +10,3 @@ mod tlb;
 
 pub use answer::HwAnswer;
 pub use tlb::HwTlb;
-
-#[cfg(test)]
-mod tests;

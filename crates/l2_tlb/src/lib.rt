@@ -9,6 +9,3 @@ mod table;
 pub use base_words::Ppn;
 pub use entry::L2Entry;
 pub use table::L2;
-
-#[cfg(test)]
-mod tests;

@@ -29,6 +29,3 @@ use place::Place;
 pub use plan::{Item, ItemList, Plan};
 pub use reader::read;
 use section::Section;
-
-#[cfg(test)]
-mod tests;

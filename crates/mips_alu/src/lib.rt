@@ -16,16 +16,3 @@ pub use merging::{
     stored_word,
 };
 pub use registers::{advance, read, write};
-
-#[cfg(test)]
-mod arithmetic_tests;
-#[cfg(test)]
-mod branch_tests;
-#[cfg(test)]
-mod delay_slot_tests;
-#[cfg(test)]
-mod memory_tests;
-#[cfg(test)]
-mod rig;
-#[cfg(test)]
-mod trap_tests;

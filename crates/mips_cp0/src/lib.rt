@@ -8,6 +8,3 @@ mod words;
 
 pub use base_words::{Exception, Use};
 pub use coprocessor::Cp0;
-
-#[cfg(test)]
-mod tests;

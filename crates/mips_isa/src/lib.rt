@@ -15,6 +15,3 @@ pub use base_words::{
 pub use decoder::decode;
 pub use encoder::encode;
 pub use law::round_trip;
-
-#[cfg(test)]
-mod tests;

@@ -6,6 +6,3 @@ mod retiring;
 
 pub use law::shown_stays;
 pub use retiring::{do_system, pass, put, put_linked, put_unlinked, read_cp0, write_cp0};
-
-#[cfg(test)]
-mod tests;

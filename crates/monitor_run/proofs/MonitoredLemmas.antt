@@ -5,7 +5,6 @@ use Rattle.std.specs.Prelude.{position, option_map, slice_index_or}
 use Rattle.std.proofs.lemmas.Bool.Decides.{nat_tests}
 use Rattle.std.proofs.lemmas.List.{length-map}
 use Rattle.std.proofs.lemmas.List.Elements.{recursion_from_All}
-use Rattle.elf_image.proofs.NoFault.{option_map_none, position_none}
 use Rattle.base_words.specs.declared.input.InputEntry.{InputEntry}
 use Rattle.elf_image.specs.declared.image.Image.{Image}
 use Rattle.isolation_law.specs.GuestState.{GuestState}
@@ -34,62 +33,62 @@ use Rattle.admission.specs.declared.faults.UnbuiltKey.TheVariants as key
 use Rattle.admission.specs.Unbuilt.{first_key, unbuilt, unless, is_run as admitted_run}
 use Rattle.monitor_run.specs.Monitored.{AreBooted, IsBooted, ArePrivate, IsPrivate, IsRun}
 use Rattle.monitor_run.specs.Sources.{source_of, sources_of}
+use Rattle.monitor_run.proofs.FoundLemmas.{option_map_none, position_none}
 use Rattle.monitor_run.proofs.SourceLemmas.{given_blocks-as_given}
 
 -- ---- starts
 
-IsBooted-from : (d : Described) (guest : ℕ) (spec : GuestSpec) (image : Image) (disk : List (List ℕ)) (input : List InputEntry) (b : Boot)
+IsBooted-from : (d : Described) (guest : ℕ) (spec : GuestSpec) (image : Image) (disk : List (List ℕ)) (input : List InputEntry) (b : Boot) → length d.processors ≤ 16 → IsGuest d.nodes spec
     → IsStarted spec (record { image = image_seen image; disk = disk }) → IsStart d guest spec (source_of image disk) input b → IsBooted d guest spec (record { image = image_seen image; disk = disk }) input b
-IsBooted-from d guest spec image disk input b started start = record {
-  around = start.around;
-  image = start.image_is;
-  vcpus = start.vcpus;
-  disk = start.disk_is ∙ given_blocks-as_given disk;
-  input_is = start.input_is;
-  backed = start.backed ∙ started.pages;
-}
+IsBooted-from d guest spec image disk input b few is started start =
+    let pages : spec.pages ≡ b.image.pages = sym started.pages ∙ sym (ap (λ (i : Given). i.pages) start.image_is) in
+    let disk-is = start.disk_is ∙ given_blocks-as_given disk in
+    record {
+      around = start.around;
+      image = start.image_is;
+      vcpus = start.vcpus;
+      disk = disk-is;
+      input_is = start.input_is;
+      placed = start.placed;
+      sound = record {
+        has_vcpu = subst (λ (n : ℕ). 0 < n) (sym start.vcpus) is.some_vcpus;
+        few_processors = (let same = ap (λ (a : Surroundings). length a.processors) start.around in let long = length-map d.processors (λ n. n.0) in omega (arith, same, long, few));
+        backed = start.placed.count ∙ pages;
+        whole = ap (λ (i : Given). length i.memory) start.image_is ∙ started.whole ∙ ap (λ (n : ℕ). 4096 * n) pages;
+        blocks = subst (λ (l : List (List ℕ)). (k : ℕ) → k < length l → length (slice_index_or l k []) ≡ 4096) (sym disk-is) started.blocks;
+      };
+    }
 
 abbrev AreBoots : List Boot → Type 0
 AreBoots [] = Unit {0}
 AreBoots (b ∷ boots) = IsBoot b × AreBoots boots
 
 module _ (d : Described) where
-  AreBooted-from : (guest : ℕ) (specs : List GuestSpec) (images : List Image) (disks : List (List (List ℕ))) (inputs : List (List InputEntry)) (boots : List Boot) → length images ≡ length disks
+  AreBooted-from : (guest : ℕ) (specs : List GuestSpec) (images : List Image) (disks : List (List (List ℕ))) (inputs : List (List InputEntry)) (boots : List Boot) → length d.processors ≤ 16 → ByRecursion (IsGuest d.nodes) specs → length images ≡ length disks
       → AreStarted specs (paired images disks) → AreStarts d guest specs (sources_of images disks) inputs boots → AreBooted d guest specs (paired images disks) inputs boots
-  AreBooted-from guest [] [] disks [] [] same are starts = tt
-  AreBooted-from guest [] [] disks [] (b ∷ boots) same are starts = absurd starts
-  AreBooted-from guest [] [] disks (input ∷ inputs) boots same are starts = absurd starts
-  AreBooted-from guest [] (image ∷ images) [] inputs boots same are starts = absurd (omega (arith, same))
-  AreBooted-from guest [] (image ∷ images) (disk ∷ disks) inputs boots same are starts = absurd are
-  AreBooted-from guest (spec ∷ specs) [] disks inputs boots same are starts = absurd are
-  AreBooted-from guest (spec ∷ specs) (image ∷ images) [] inputs boots same are starts = absurd are
-  AreBooted-from guest (spec ∷ specs) (image ∷ images) (disk ∷ disks) [] boots same are starts = absurd starts
-  AreBooted-from guest (spec ∷ specs) (image ∷ images) (disk ∷ disks) (input ∷ inputs) [] same are starts = absurd starts
-  AreBooted-from guest (spec ∷ specs) (image ∷ images) (disk ∷ disks) (input ∷ inputs) (b ∷ boots) same are starts =
-      (IsBooted-from d guest spec image disk input b are.0 starts.0, AreBooted-from (suc guest) specs images disks inputs boots (omega (arith, same)) are.1 starts.1)
+  AreBooted-from guest [] [] disks [] [] few is same are starts = tt
+  AreBooted-from guest [] [] disks [] (b ∷ boots) few is same are starts = absurd starts
+  AreBooted-from guest [] [] disks (input ∷ inputs) boots few is same are starts = absurd starts
+  AreBooted-from guest [] (image ∷ images) [] inputs boots few is same are starts = absurd (omega (arith, same))
+  AreBooted-from guest [] (image ∷ images) (disk ∷ disks) inputs boots few is same are starts = absurd are
+  AreBooted-from guest (spec ∷ specs) [] disks inputs boots few is same are starts = absurd are
+  AreBooted-from guest (spec ∷ specs) (image ∷ images) [] inputs boots few is same are starts = absurd are
+  AreBooted-from guest (spec ∷ specs) (image ∷ images) (disk ∷ disks) [] boots few is same are starts = absurd starts
+  AreBooted-from guest (spec ∷ specs) (image ∷ images) (disk ∷ disks) (input ∷ inputs) [] few is same are starts = absurd starts
+  AreBooted-from guest (spec ∷ specs) (image ∷ images) (disk ∷ disks) (input ∷ inputs) (b ∷ boots) few is same are starts =
+      (IsBooted-from d guest spec image disk input b few is.0 are.0 starts.0, AreBooted-from (suc guest) specs images disks inputs boots few is.1 (omega (arith, same)) are.1 starts.1)
 
   -- ---- private machines
 
-  IsBoot-from : (guest : ℕ) (spec : GuestSpec) (start : Start) (input : List InputEntry) (b : Boot) → length d.processors ≤ 16 → IsGuest d.nodes spec → IsStarted spec start → IsBooted d guest spec start input b → IsBoot b
-  IsBoot-from guest spec start input b few is started booted = record {
-    has_vcpu = subst (λ (n : ℕ). 0 < n) (sym booted.vcpus) is.some_vcpus;
-    few_processors = (let same = ap (λ (a : Surroundings). length a.processors) booted.around in let long = length-map d.processors (λ n. n.0) in omega (arith, same, long, few));
-    backed = booted.backed ∙ sym started.pages ∙ sym (ap (λ (i : Given). i.pages) booted.image);
-    whole = ap (λ (i : Given). length i.memory) booted.image ∙ started.whole ∙ ap (λ (n : ℕ). 4096 * n) (sym started.pages ∙ sym (ap (λ (i : Given). i.pages) booted.image));
-    blocks = subst (λ (l : List (List ℕ)). (k : ℕ) → k < length l → length (slice_index_or l k []) ≡ 4096) (sym booted.disk) started.blocks;
-  }
-
-  AreBoots-from : (guest : ℕ) (specs : List GuestSpec) (starts : List Start) (inputs : List (List InputEntry)) (boots : List Boot) → length d.processors ≤ 16 → ByRecursion (IsGuest d.nodes) specs
-      → AreStarted specs starts → AreBooted d guest specs starts inputs boots → AreBoots boots
-  AreBoots-from guest [] [] [] [] few are started booted = tt
-  AreBoots-from guest [] [] [] (b ∷ boots) few are started booted = absurd booted
-  AreBoots-from guest [] [] (input ∷ inputs) boots few are started booted = absurd booted
-  AreBoots-from guest [] (start ∷ starts) inputs boots few are started booted = absurd booted
-  AreBoots-from guest (spec ∷ specs) [] inputs boots few are started booted = absurd booted
-  AreBoots-from guest (spec ∷ specs) (start ∷ starts) [] boots few are started booted = absurd booted
-  AreBoots-from guest (spec ∷ specs) (start ∷ starts) (input ∷ inputs) [] few are started booted = absurd booted
-  AreBoots-from guest (spec ∷ specs) (start ∷ starts) (input ∷ inputs) (b ∷ boots) few are started booted =
-      (IsBoot-from guest spec start input b few are.0 started.0 booted.0, AreBoots-from (suc guest) specs starts inputs boots few are.1 started.1 booted.1)
+  AreBoots-from : (guest : ℕ) (specs : List GuestSpec) (starts : List Start) (inputs : List (List InputEntry)) (boots : List Boot) → AreBooted d guest specs starts inputs boots → AreBoots boots
+  AreBoots-from guest [] [] [] [] booted = tt
+  AreBoots-from guest [] [] [] (b ∷ boots) booted = absurd booted
+  AreBoots-from guest [] [] (input ∷ inputs) boots booted = absurd booted
+  AreBoots-from guest [] (start ∷ starts) inputs boots booted = absurd booted
+  AreBoots-from guest (spec ∷ specs) [] inputs boots booted = absurd booted
+  AreBoots-from guest (spec ∷ specs) (start ∷ starts) [] boots booted = absurd booted
+  AreBoots-from guest (spec ∷ specs) (start ∷ starts) (input ∷ inputs) [] booted = absurd booted
+  AreBoots-from guest (spec ∷ specs) (start ∷ starts) (input ∷ inputs) (b ∷ boots) booted = (booted.0.sound, AreBoots-from (suc guest) specs starts inputs boots booted.1)
 
   module _ (isolation : IsolationHolds) where
     IsPrivate-from : (b : Boot) (s : GuestState) (guest : GuestRecord) → IsBoot b → IsRecord b s guest → IsPrivate b guest
@@ -113,8 +112,8 @@ module _ (d : Described) where
         → AreStarts d 0 d.guests (sources_of images disks) d.input boots → IsWhole d boots out → IsRun d (paired images disks) out
     IsRun-from images disks boots out accepted same started starts whole =
         let are = recursion_from_All (IsGuest d.nodes) d.guests accepted.guests in
-        let booted = AreBooted-from 0 d.guests images disks d.input boots same started starts in
-        let sound = AreBoots-from 0 d.guests (paired images disks) d.input boots accepted.few_processors are started booted in
+        let booted = AreBooted-from 0 d.guests images disks d.input boots accepted.few_processors are same started starts in
+        let sound = AreBoots-from 0 d.guests (paired images disks) d.input boots booted in
         record { boots = boots; booted = booted; whole = whole; private = ArePrivate-from boots whole.states out.guests sound whole.guests }
 
 -- ---- what is built

@@ -2,8 +2,8 @@
 use Rattle.std.proofs.Common.{◌≡◌, ℕ, ◌+◌, ◌<◌, List, ◌∷◌, [], ◌++◌, length, get_or, drop, ap, sym, ◌∙◌, subst, append_assoc, add-one, drop-cons, arith, Err}
 use Rattle.std.proofs.lemmas.List.{append-nil, drop_all}
 use Rattle.outside_io.specs.declared.sink.SinkFault.{SinkFault}
+use Rattle.outside_io.specs.Pieces.{PiecesJoin}
 use Rattle.outside_io.specs.Writing.{SinkView, Took, Puts}
-use Rattle.outside_io.proofs.WritingLemmas.{Puts-behind, Puts-stopped, Took-twice}
 use Rattle.monitor_run.specs.Report.{numbered}
 
 -- what was put, with the texts of the items that are left, is the whole text
@@ -12,7 +12,7 @@ pub record WrittenSoFar {A : Type 0} (text_of : ℕ → A → List ℕ) (old now
   pub took : Took old now text
   pub rest : text ++ numbered text_of number (drop number items) ≡ numbered text_of 0 items
 
-module _ {A : Type 0} (text_of : ℕ → A → List ℕ) (old now new : SinkView) (number : ℕ) (items : List A) (item : A) (there : number < length items) (is : item ≡ get_or items number item) where
+module _ (join : PiecesJoin) {A : Type 0} (text_of : ℕ → A → List ℕ) (old now new : SinkView) (number : ℕ) (items : List A) (item : A) (there : number < length items) (is : item ≡ get_or items number item) where
   -- the text of the next item and of those behind it
   texts-next : text_of number item ++ numbered text_of (number + 1) (drop (number + 1) items) ≡ numbered text_of number (drop number items)
   texts-next =
@@ -22,7 +22,7 @@ module _ {A : Type 0} (text_of : ℕ → A → List ℕ) (old now new : SinkView
   pub WrittenSoFar-next : WrittenSoFar text_of old now number items → Took now new (text_of number item) → WrittenSoFar text_of old new (number + 1) items
   WrittenSoFar-next far took = record {
     text = far.text ++ text_of number item;
-    took = Took-twice old now new far.text (text_of number item) far.took took;
+    took = join.taken old now new far.text (text_of number item) far.took took;
     rest = append_assoc far.text (text_of number item) (numbered text_of (number + 1) (drop (number + 1) items))
         ∙ ap (λ (xs : List ℕ). far.text ++ xs) texts-next
         ∙ far.rest;
@@ -34,7 +34,7 @@ module _ {A : Type 0} (text_of : ℕ → A → List ℕ) (old now new : SinkView
       let others = numbered text_of (number + 1) (drop (number + 1) items) in
       let whole : far.text ++ (text_of number item ++ others) ≡ numbered text_of 0 items = ap (λ (xs : List ℕ). far.text ++ xs) texts-next ∙ far.rest in
       subst (λ (xs : List ℕ). Puts old new xs (Err fault)) whole
-      (Puts-behind old now new far.text (text_of number item ++ others) (Err fault) far.took (Puts-stopped now new (text_of number item) others fault stopped))
+      (join.behind old now new far.text (text_of number item ++ others) (Err fault) far.took (join.stopped now new (text_of number item) others fault stopped))
 
 -- all texts are put
 pub Took-all : {A : Type 0} (text_of : ℕ → A → List ℕ) (old now : SinkView) (number : ℕ) (items : List A) → length items ≡ number → WrittenSoFar text_of old now number items → Took old now (numbered text_of 0 items)

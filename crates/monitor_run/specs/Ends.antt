@@ -13,7 +13,7 @@ use Rattle.monitor_run.specs.Report.{numbered, record_text, alone_text}
 
 -- a record that holds nothing
 abbrev pub nothing : RunRecord
-nothing = record { guests = []; slices = [] }
+nothing = record { guests = []; slices = []; failures = [] }
 
 -- the record of a job that is done; guests that run alone leave none
 abbrev pub IsDone : Job → RunRecord → Type 0

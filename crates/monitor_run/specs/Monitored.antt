@@ -4,24 +4,25 @@ use Rattle.base_words.specs.declared.input.InputEntry.{InputEntry}
 use Rattle.private_machine.specs.PrivateMachine.{PrivateMachine}
 use Rattle.private_machine.specs.PrivateRun.{private_run}
 use Rattle.isolation_law.specs.OwnHistory.{own}
-use Rattle.isolation_law.specs.Start.{Boot, private_start}
+use Rattle.isolation_law.specs.Start.{Boot, IsBoot, private_start}
 use Rattle.machine_desc.specs.declared.machine.GuestSpec.{GuestSpec}
 use Rattle.machine_desc.specs.Described.{Described}
 use Rattle.guest_course.specs.CourseView.{got_of}
 use Rattle.guest_core.specs.declared.records.GuestRecord.{GuestRecord}
 use Rattle.guest_core.specs.declared.records.RunRecord.{RunRecord}
-use Rattle.run_workers.specs.Starting.{around_of}
+use Rattle.run_workers.specs.Starting.{around_of, IsPlaced}
 use Rattle.run_workers.specs.WholeRecord.{IsWhole}
 use Rattle.admission.specs.Starts.{Start}
 
--- a guest is booted from its image, its disk and its input, on frames of which each page has one
+-- a guest is booted from its image, its disk and its input, on the frames that boot gives to it; and it may be booted so
 pub record IsBooted (d : Described) (guest : ℕ) (spec : GuestSpec) (start : Start) (input : List InputEntry) (b : Boot) : Type 0 where
   pub around : b.around ≡ around_of d guest spec
   pub image : b.image ≡ start.image
   pub vcpus : b.vcpus ≡ spec.vcpus
   pub disk : b.disk ≡ start.disk
   pub input_is : b.input ≡ input
-  pub backed : length b.frames ≡ spec.pages
+  pub placed : IsPlaced d guest spec b.frames
+  pub sound : IsBoot b
 
 -- so are all, from a number on
 abbrev pub AreBooted : Described → ℕ → List GuestSpec → List Start → List (List InputEntry) → List Boot → Type 0

@@ -12,13 +12,14 @@ use crate::{Alone, Fault};
 use base_words::{Bytes, End};
 use event_journal::Journal;
 use guest_core::GuestRecord;
-use outside_io::{Sink, SinkFault};
+use outside_io::{Sink, SinkFault, pieces_join};
 use std::alloc::Global;
 
 /// Puts a text and another.
 fn put_two<K: Sink>(sink: &mut K, first: &[u8], second: &[u8]) -> Result<(), SinkFault>
     ensures { Puts (K.view sink.old) (K.view sink.new) (first.now ++ second.now) result }
 {
+    pieces_join();
     match sink.put(first) {
         Ok(()) => sink.put(second),
         Err(fault) => Err(fault),
@@ -34,6 +35,7 @@ fn put_three<K: Sink>(
 ) -> Result<(), SinkFault>
     ensures { Puts (K.view sink.old) (K.view sink.new) (first.now ++ (second.now ++ third.now)) result }
 {
+    pieces_join();
     match sink.put(first) {
         Ok(()) => put_two(sink, second, third),
         Err(fault) => Err(fault),
@@ -90,6 +92,7 @@ fn put_record<K: Sink>(
 ) -> Result<(), SinkFault>
     ensures { Puts (K.view sink.old) (K.view sink.new) (record_text sums number guest.now) result }
 {
+    pieces_join();
     match put_guest(alloc, sink, number, &guest.console, guest.end) {
         Ok(()) => put_sums(alloc, sink, sums, &guest.journal),
         Err(fault) => Err(fault),
@@ -105,6 +108,7 @@ fn put_records<K: Sink>(
 ) -> Result<(), SinkFault>
     ensures { Puts (K.view sink.old) (K.view sink.new) (numbered (record_text sums) 0 guests.now) result }
 {
+    pieces_join();
     for (number, guest) in guests.iter().enumerate() {
         match put_record(alloc, sink, sums, number, guest) {
             Ok(()) => {}
@@ -118,6 +122,7 @@ fn put_records<K: Sink>(
 fn put_alone<K: Sink>(alloc: Global, sink: &mut K, guests: &[Alone]) -> Result<(), SinkFault>
     ensures { Puts (K.view sink.old) (K.view sink.new) (numbered alone_text 0 guests.now) result }
 {
+    pieces_join();
     for (number, guest) in guests.iter().enumerate() {
         match put_guest(alloc, sink, number, &guest.console, guest.end) {
             Ok(()) => {}

@@ -15,7 +15,7 @@ use crate::private_run::run_alone;
 use crate::render::{render, render_alone, render_fault};
 use admission::{Fault, Job, Refusal, Setup, admit};
 use guest_core::RunRecord;
-use outside_io::{Gate, Shelf, Sink, SinkFault};
+use outside_io::{Gate, Shelf, Sink, SinkFault, nothing_put_is_starved};
 use std::alloc::Global;
 use std::sync::Wait;
 use std::thread::Threads;
@@ -127,6 +127,7 @@ pub fn disco<R: Threads + Wait + Sync, S: Shelf, K: Sink, G: Gate>(
     requires { out.old ≡ nothing }
     ensures { Answers (texts words.now) (S.view shelf.old) (S.view shelf.new) (K.view sink.old) (K.view sink.new) out.new result }
 {
+    nothing_put_is_starved();
     match admit(alloc, words, shelf) {
         Ok(job) => carry_out_job(rt, alloc, job, sink, gate, out),
         Err(Refusal::Fault(fault)) => tell(alloc, &fault, sink),

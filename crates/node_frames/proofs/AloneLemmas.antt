@@ -8,6 +8,7 @@ use mathlib.Core.Logic.{dite}
 use native.Mathlib.Decide.{ℕ_discrete, dec_le}
 use Rattle.node_frames.specs.Layout.{Layout}
 use Rattle.base_words.specs.declared.ids.NodeId.{NodeId}
+use Rattle.frame_words.specs.AddingUp.{HoldsAddUp}
 use Rattle.frame_words.specs.FrameWords.{generation, cell_word, frame_word}
 use Rattle.frame_words.specs.Views.{hold, held, times, holding}
 use Rattle.frame_words.specs.Taking.{Takes}
@@ -16,7 +17,6 @@ use Rattle.frame_words.specs.Refusals.{IsOwn}
 use Rattle.frame_words.specs.Holders.{MadeTable}
 use Rattle.frame_words.specs.declared.view.Look.{Look}
 use Rattle.frame_words.specs.declared.view.View.{View}
-use Rattle.frame_words.proofs.Bags.{times-here, times-else}
 use Rattle.node_frames.specs.Places.{IsOn, cell_of_node, paying, FitsShape, AreNodes}
 use Rattle.node_frames.specs.Left.{is_free, left_of, one_less, taking}
 use Rattle.node_frames.proofs.SeekLemmas.{on_range, range_on, paying-home, paying-outside}
@@ -35,12 +35,12 @@ pub node_within : (layout : Layout) (order : List NodeId) (place : ℕ) (node : 
 node_within layout order place node all is = subst (λ (n : NodeId). n.0 < layout.nodes) (get_or_from_slice_get order place node node is) (all place node (slice_get_within order place node is))
 
 -- one loan more or none
-pub paid_frame : (layout : Layout) (home node f : ℕ) (v : View) → cell_of_node layout node < 8 → held (frame_word f) (paying layout home node v) ≡ held (frame_word f) v
-paid_frame layout home node f v low = step (cell_of_node layout node == home)
+pub paid_frame : HoldsAddUp → (layout : Layout) (home node f : ℕ) (v : View) → cell_of_node layout node < 8 → held (frame_word f) (paying layout home node v) ≡ held (frame_word f) v
+paid_frame hold_laws layout home node f v low = step (cell_of_node layout node == home)
   where
     step : (b : Bool) → held (frame_word f) (if b then v else holding v (cell_word (cell_of_node layout node)) 0) ≡ held (frame_word f) v
     step true = refl
-    step false = times-else (cell_of_node layout node) (f + 8) 0 v.holds (λ (e : f + 8 ≡ cell_of_node layout node). omega arith)
+    step false = hold_laws.more_else (cell_of_node layout node) (f + 8) 0 v.holds (λ (e : f + 8 ≡ cell_of_node layout node). omega arith)
 
 pub paid_known : (layout : Layout) (home node : ℕ) (v : View) → (paying layout home node v).known ≡ v.known
 paid_known layout home node v = step (cell_of_node layout node == home)
@@ -70,21 +70,21 @@ abbrev pub one_of : Bool → ℕ
 one_of b = if b then 1 else 0
 
 -- the view after a take: the frame is held, and all else as it was
-module _ (layout : Layout) (home node number g : ℕ) (v w : View) (tail : List Look) (low : cell_of_node layout node < 8) (alone : v.alone ≡ true)
+module _ (hold_laws : HoldsAddUp) (layout : Layout) (home node number g : ℕ) (v w : View) (tail : List Look) (low : cell_of_node layout node < 8) (alone : v.alone ≡ true)
     (t : Takes (looked (paying layout home node v) tail) (frame_word number) g w) where
   here_before : is_free v number ≡ true
   here_before =
-      let unheld : held (frame_word number) v ≡ 0 = sym (paid_frame layout home node number v low) ∙ t.unheld in
+      let unheld : held (frame_word number) v ≡ 0 = sym (paid_frame hold_laws layout home node number v low) ∙ t.unheld in
       let known : slice_index v.known (frame_word number) ≡ generation t.seen = ap (λ (l : List ℕ). get_or l (frame_word number) 0) (sym (paid_known layout home node v)) ∙ t.known (paid_alone layout home node v ∙ alone) in
       let fresh = t.free.fresh in
       λ i. eq-eqb (held (frame_word number) v) 0 unheld i && not (ne_eqb (slice_index v.known (frame_word number)) 4294967295 (omega arith) i)
 
   here_after : is_free w number ≡ false
-  here_after = own_taken w number (inl (let one = ap (held (frame_word number)) t.after ∙ times-here (frame_word number) g (paying layout home node v).holds in omega arith))
+  here_after = own_taken w number (inl (let one = ap (held (frame_word number)) t.after ∙ hold_laws.more (frame_word number) g (paying layout home node v).holds in omega arith))
 
   else_same : (f : ℕ) → f ≢ number → is_free w f ≡ is_free v f
   else_same f apart =
-      let holds : held (frame_word f) w ≡ held (frame_word f) v = ap (held (frame_word f)) t.after ∙ times-else (frame_word number) (frame_word f) g (paying layout home node v).holds (λ (e : f + 8 ≡ number + 8). apart (omega arith)) ∙ paid_frame layout home node f v low in
+      let holds : held (frame_word f) w ≡ held (frame_word f) v = ap (held (frame_word f)) t.after ∙ hold_laws.more_else (frame_word number) (frame_word f) g (paying layout home node v).holds (λ (e : f + 8 ≡ number + 8). apart (omega arith)) ∙ paid_frame hold_laws layout home node f v low in
       let known : slice_index w.known (frame_word f) ≡ slice_index v.known (frame_word f) =
       ap (λ (u : View). get_or u.known (frame_word f) 0) t.after
       ∙ get_or-set_other (paying layout home node v).known (frame_word number) (frame_word f) g 0 (λ (e : f + 8 ≡ number + 8). apart (omega arith))
@@ -95,7 +95,7 @@ module _ (layout : Layout) (home node number g : ℕ) (v w : View) (tail : List 
   still_alone = ap (λ (u : View). u.alone) t.after ∙ paid_alone layout home node v ∙ alone
 
   cell_same : (c : ℕ) → c < 8 → held c w ≡ held c (paying layout home node v)
-  cell_same c below = ap (held c) t.after ∙ times-else (frame_word number) c g (paying layout home node v).holds (λ (e : c ≡ number + 8). omega arith)
+  cell_same c below = ap (held c) t.after ∙ hold_laws.more_else (frame_word number) c g (paying layout home node v).holds (λ (e : c ≡ number + 8). omega arith)
 
   -- the free frames of this node and of another
   pub frames-here : 0 < layout.frames → IsOn layout node number → (lends : List ℕ) → (left_of layout lends v).frames node ≡ (left_of layout lends w).frames node + 1
@@ -136,9 +136,9 @@ module _ (layout : Layout) (home node number g : ℕ) (v w : View) (tail : List 
           (let here = loans-outside layout home (left_of layout lends v) node (cell_of_node layout node) outside in
           let less = one_less-here (left_of layout lends v).loans (cell_of_node layout node) in
           let same = cell_same (cell_of_node layout node) low in
-          let paid = ap (held (cell_of_node layout node)) (paying-outside layout home node (cell_of_node layout node) v refl outside) ∙ times-here (cell_of_node layout node) 0 v.holds in omega arith))
+          let paid = ap (held (cell_of_node layout node)) (paying-outside layout home node (cell_of_node layout node) v refl outside) ∙ hold_laws.more (cell_of_node layout node) 0 v.holds in omega arith))
           (λ ne.
           let less = one_less-else (left_of layout lends v).loans (cell_of_node layout node) c ne in
           dite (dec_le 8 c)
           (λ far. let none = get_or-eq_default lends 0 {n = c} (omega arith) in omega arith)
-          (λ near. let below = lt_of_not-le near in let same = cell_same c below in let paid = times-else (cell_of_node layout node) c 0 v.holds ne in omega arith)))
+          (λ near. let below = lt_of_not-le near in let same = cell_same c below in let paid = hold_laws.more_else (cell_of_node layout node) c 0 v.holds ne in omega arith)))

@@ -5,6 +5,7 @@ use Rattle.std.proofs.lemmas.List.Elements.{All-filter, All-contains, filter_pas
 use Rattle.std.proofs.lemmas.Option.{get_or_from_slice_get, slice_get_within, slice_get-get_or}
 use Rattle.node_frames.specs.Layout.{Layout}
 use Rattle.base_words.specs.declared.ids.NodeId.{NodeId}
+use Rattle.frame_words.specs.AddingUp.{HoldsAddUp}
 use Rattle.frame_words.specs.Holders.{MadeTable}
 use Rattle.frame_words.specs.declared.view.View.{View}
 use Rattle.node_frames.specs.Places.{cell_of_node, FitsShape, AreNodes}
@@ -47,16 +48,16 @@ cell_nodes-on layout cell k node there =
     let passes = filter_passes (on_cell layout cell) (nodes_below layout.nodes) k node (slice_get_within (cell_nodes layout cell) k node there) in
     eqb-true (cell_of_node layout node.0) cell (ap (on_cell layout cell) (sym (get_or_from_slice_get (cell_nodes layout cell) k node node there)) ∙ passes)
 
-pub cell_falls : (table : MadeTable) (layout : Layout) (cell number g : ℕ) (v w : View) → FitsShape table layout → v.alone ≡ true
+pub cell_falls : HoldsAddUp → (table : MadeTable) (layout : Layout) (cell number g : ℕ) (v w : View) → FitsShape table layout → v.alone ≡ true
     → Finds layout table.terms.lends cell (cell_nodes layout cell) number g v w
     → cell_frames layout (left_of layout table.terms.lends w) cell + 1 ≡ cell_frames layout (left_of layout table.terms.lends v) cell
-cell_falls table layout cell number g v w fits alone f =
+cell_falls hold_laws table layout cell number g v w fits alone f =
     let lends = table.terms.lends in
     let within = node_within layout (cell_nodes layout cell) f.place f.node (cell_nodes-below layout cell) f.ordered in
     let low = cell_low table layout f.node.0 fits within in
-    let fewer = frames-here layout cell f.node.0 number g v w f.tail low alone f.took fits.lies.has_frames f.on lends in
+    let fewer = frames-here hold_laws layout cell f.node.0 number g v w f.tail low alone f.took fits.lies.has_frames f.on lends in
     let here = cell_frames-here layout cell (left_of layout lends v) f.node.0 within (omega arith) in
-    ap (λ (l : Left). cell_frames layout l cell + 1) (left_after layout cell f.node.0 number g v w f.tail low alone f.took fits.lies.has_frames f.on lends table.terms.few_cells)
+    ap (λ (l : Left). cell_frames layout l cell + 1) (left_after hold_laws layout cell f.node.0 number g v w f.tail low alone f.took fits.lies.has_frames f.on lends table.terms.few_cells)
     ∙ subst (λ c. cell_frames layout (taking layout cell (left_of layout lends v) f.node.0) c + 1 ≡ cell_frames layout (left_of layout lends v) c) (cell_nodes-on layout cell f.place f.node f.ordered) (sym here)
 
 -- none of an order passes, or the first that does is among it

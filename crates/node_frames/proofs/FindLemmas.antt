@@ -6,6 +6,7 @@ use mathlib.Core.Logic.{dite}
 use native.Mathlib.Decide.{ℕ_discrete}
 use Rattle.node_frames.specs.Layout.{Layout}
 use Rattle.base_words.specs.declared.ids.NodeId.{NodeId}
+use Rattle.frame_words.specs.AddingUp.{HoldsAddUp, LooksAddUp, LooksTell}
 use Rattle.frame_words.specs.FrameWords.{cell_word, frame_word}
 use Rattle.frame_words.specs.Views.{holding, held, cell_loans}
 use Rattle.frame_words.specs.Taking.{Takes}
@@ -13,8 +14,6 @@ use Rattle.frame_words.specs.Tails.{looked, GainNothing, borrows_of, repays_of}
 use Rattle.frame_words.specs.Refusals.{IsOwn}
 use Rattle.frame_words.specs.declared.view.Look.{Look}
 use Rattle.frame_words.specs.declared.view.View.{View}
-use Rattle.frame_words.proofs.Bags.{times-here}
-use Rattle.frame_words.proofs.TailLemmas.{looked-looked, GainNothing-append, borrows_of-append, repays_of-append, Refuses-longer, Refuses-behind, IsAtLimit-longer, IsAtLimit-behind, IsLost-longer, IsLost-behind}
 use Rattle.node_frames.specs.Places.{IsOn, cell_of_node, IsOutside, paying}
 use Rattle.node_frames.specs.Scans.{GivesFrame, GivesNone}
 use Rattle.node_frames.specs.Entries.{Shows, Owns}
@@ -24,15 +23,15 @@ use Rattle.node_frames.specs.declared.answers.Shown.TheVariants.{AllHeld, AtLimi
 use Rattle.node_frames.proofs.ScanLemmas.{looked-nil}
 
 -- what a node showed stays shown among more looks
-pub Shows-longer : (layout : Layout) (lends : List ℕ) (home node : ℕ) (entry : Shown) (xs ys : List Look) → Shows layout lends home node entry xs → Shows layout lends home node entry (xs ++ ys)
-Shows-longer layout lends home node AllHeld xs ys s = λ frame on. Refuses-longer xs ys (frame_word frame) (s frame on)
-Shows-longer layout lends home node (AtLimit seen) xs ys s = (s.0, IsAtLimit-longer xs ys _ _ seen s.1)
-Shows-longer layout lends home node (Lost seen) xs ys s = (s.0, IsLost-longer xs ys _ _ seen s.1)
+pub Shows-longer : LooksTell → (layout : Layout) (lends : List ℕ) (home node : ℕ) (entry : Shown) (xs ys : List Look) → Shows layout lends home node entry xs → Shows layout lends home node entry (xs ++ ys)
+Shows-longer tell layout lends home node AllHeld xs ys s = λ frame on. tell.refused_longer xs ys (frame_word frame) (s frame on)
+Shows-longer tell layout lends home node (AtLimit seen) xs ys s = (s.0, tell.limit_longer xs ys _ _ seen s.1)
+Shows-longer tell layout lends home node (Lost seen) xs ys s = (s.0, tell.lost_longer xs ys _ _ seen s.1)
 
-pub Shows-behind : (layout : Layout) (lends : List ℕ) (home node : ℕ) (entry : Shown) (xs ys : List Look) → ((cell : ℕ) → borrows_of cell xs ≡ repays_of cell xs) → Shows layout lends home node entry ys → Shows layout lends home node entry (xs ++ ys)
-Shows-behind layout lends home node AllHeld xs ys even s = λ frame on. Refuses-behind xs ys (frame_word frame) (s frame on)
-Shows-behind layout lends home node (AtLimit seen) xs ys even s = (s.0, IsAtLimit-behind xs ys _ _ seen (even (cell_word (cell_of_node layout node))) s.1)
-Shows-behind layout lends home node (Lost seen) xs ys even s = (s.0, IsLost-behind xs ys _ _ seen (even (cell_word (cell_of_node layout node))) s.1)
+pub Shows-behind : LooksTell → (layout : Layout) (lends : List ℕ) (home node : ℕ) (entry : Shown) (xs ys : List Look) → ((cell : ℕ) → borrows_of cell xs ≡ repays_of cell xs) → Shows layout lends home node entry ys → Shows layout lends home node entry (xs ++ ys)
+Shows-behind tell layout lends home node AllHeld xs ys even s = λ frame on. tell.refused_behind xs ys (frame_word frame) (s frame on)
+Shows-behind tell layout lends home node (AtLimit seen) xs ys even s = (s.0, tell.limit_behind xs ys _ _ seen (even (cell_word (cell_of_node layout node))) s.1)
+Shows-behind tell layout lends home node (Lost seen) xs ys even s = (s.0, tell.lost_behind xs ys _ _ seen (even (cell_word (cell_of_node layout node))) s.1)
 
 -- what is a view's own doesn't hang on its looks
 Owns-looked : (layout : Layout) (lends : List ℕ) (node : ℕ) (entry : Shown) (v : View) (tail : List Look) → Owns layout lends node entry (looked v tail) → Owns layout lends node entry v
@@ -63,21 +62,21 @@ else_set xs i k a b apart is =
     let within : k < length xs = let w = slice_get_within (set xs i a) k b is in let l = length-set xs i a in omega arith in
     slice_get-get_or xs k b within ∙ ap (λ x. Some x) (sym (get_or-set_other xs i k a b apart) ∙ get_or_from_slice_get (set xs i a) k b b is)
 
-pub searched_more : (layout : Layout) (lends : List ℕ) (home : ℕ) (order : List NodeId) (place : ℕ) (list : List Shown) (v m w : View) (node : NodeId) (entry : Shown)
+pub searched_more : LooksAddUp → LooksTell → (layout : Layout) (lends : List ℕ) (home : ℕ) (order : List NodeId) (place : ℕ) (list : List Shown) (v m w : View) (node : NodeId) (entry : Shown)
     → Searched layout lends home order place list v m → slice_get order place ≡ Some node → place < length list → GivesNone layout lends home node.0 entry m w
     → Searched layout lends home order (place + 1) (set list place entry) v w
-searched_more layout lends home order place list v m w node entry s here within g = record {
+searched_more looks tell layout lends home order place list v m w node entry s here within g = record {
   tail = s.tail ++ g.tail;
-  after = g.after ∙ ap (λ (u : View). looked u g.tail) s.after ∙ looked-looked v s.tail g.tail;
-  nothing = GainNothing-append s.tail g.tail s.nothing g.nothing;
-  even = λ cell. borrows_of-append cell s.tail g.tail ∙ (λ i. s.even cell i + g.even cell i) ∙ sym (repays_of-append cell s.tail g.tail);
+  after = g.after ∙ ap (λ (u : View). looked u g.tail) s.after ∙ looks.looked_twice v s.tail g.tail;
+  nothing = looks.nothing s.tail g.tail s.nothing g.nothing;
+  even = λ cell. looks.borrows cell s.tail g.tail ∙ (λ i. s.even cell i + g.even cell i) ∙ sym (looks.repays cell s.tail g.tail);
   shown = λ k other there below ordered listed. dite (ℕ_discrete k place)
       (λ e.
       let node_is : node ≡ other = some_same order place node other here (subst (λ j. slice_get order j ≡ Some other) e ordered) in
       let entry_is : entry ≡ there = here_set list place entry there within (subst (λ j. slice_get (set list place entry) j ≡ Some there) e listed) in
       subst (λ (n : NodeId). Shows layout lends home n.0 there (s.tail ++ g.tail)) node_is
-      (subst (λ (x : Shown). Shows layout lends home node.0 x (s.tail ++ g.tail)) entry_is (Shows-behind layout lends home node.0 entry s.tail g.tail s.even g.shows)))
-      (λ ne. Shows-longer layout lends home other.0 there s.tail g.tail (s.shown k other there (omega arith) ordered (else_set list place k entry there ne listed)));
+      (subst (λ (x : Shown). Shows layout lends home node.0 x (s.tail ++ g.tail)) entry_is (Shows-behind tell layout lends home node.0 entry s.tail g.tail s.even g.shows)))
+      (λ ne. Shows-longer tell layout lends home other.0 there s.tail g.tail (s.shown k other there (omega arith) ordered (else_set list place k entry there ne listed)));
   own = λ alone k other there below ordered listed. dite (ℕ_discrete k place)
       (λ e.
       let node_is : node ≡ other = some_same order place node other here (subst (λ j. slice_get order j ≡ Some other) e ordered) in
@@ -106,33 +105,33 @@ paying-looked layout home node v tail = step (cell_of_node layout node == home)
     step false = refl
 
 -- what was taken is held once
-pub takes_once : (v : View) (i g : ℕ) (w : View) → Takes v i g w → held i w ≡ 1
-takes_once v i g w t = ap (held i) t.after ∙ times-here i g v.holds ∙ ap (λ n. n + 1) t.unheld
+pub takes_once : HoldsAddUp → (v : View) (i g : ℕ) (w : View) → Takes v i g w → held i w ≡ 1
+takes_once holds v i g w t = ap (held i) t.after ∙ holds.more i g v.holds ∙ ap (λ n. n + 1) t.unheld
 
-pub finds : (layout : Layout) (lends : List ℕ) (home : ℕ) (order : List NodeId) (place : ℕ) (list : List Shown) (v m w : View) (node : NodeId) (number g : ℕ)
+pub finds : HoldsAddUp → LooksAddUp → LooksTell → (layout : Layout) (lends : List ℕ) (home : ℕ) (order : List NodeId) (place : ℕ) (list : List Shown) (v m w : View) (node : NodeId) (number g : ℕ)
     → Searched layout lends home order place list v m → slice_get order place ≡ Some node → length list ≡ length order → GivesFrame layout lends home node.0 number g m w
     → Finds layout lends home order number g v w
-finds layout lends home order place list v m w node number g s here same f = record {
+finds holds looks tell layout lends home order place list v m w node number g s here same f = record {
   place = place;
   node = node;
   tail = s.tail ++ f.tail;
   ordered = here;
   on = f.on;
-  nothing = GainNothing-append s.tail f.tail s.nothing f.nothing;
+  nothing = looks.nothing s.tail f.tail s.nothing f.nothing;
   earlier = λ k other below ordered.
       let entry : Shown = get_or list k AllHeld in
       let within : k < length list = let h = slice_get_within order k other ordered in omega arith in
       let listed = slice_get-get_or list k AllHeld within in
-      (entry, Shows-longer layout lends home other.0 entry s.tail f.tail (s.shown k other entry below ordered listed), (λ alone. s.own alone k other entry below ordered listed));
-  lower = λ frame below on. Refuses-behind s.tail f.tail (frame_word frame) (f.lower frame below on);
+      (entry, Shows-longer tell layout lends home other.0 entry s.tail f.tail (s.shown k other entry below ordered listed), (λ alone. s.own alone k other entry below ordered listed));
+  lower = λ frame below on. tell.refused_behind s.tail f.tail (frame_word frame) (f.lower frame below on);
   own = subst (λ (u : View). u.alone ≡ true → (frame : ℕ) → frame < number → IsOn layout node.0 frame → IsOwn u (frame_word frame)) s.after f.own;
   took = took;
-  once = takes_once _ _ _ _ took;
+  once = takes_once holds _ _ _ _ took;
   paid = subst (λ (u : View). IsOutside layout home node.0 → cell_loans w (cell_of_node layout node.0) ≡ cell_loans u (cell_of_node layout node.0) + 1) s.after f.paid;
   below = subst (λ (u : View). u.alone ≡ true → IsOutside layout home node.0 → cell_loans u (cell_of_node layout node.0) < slice_index lends (cell_of_node layout node.0)) s.after f.below;
 }
   where
     took : Takes (looked (paying layout home node.0 v) (s.tail ++ f.tail)) (frame_word number) g w
     took = subst (λ (u : View). Takes u (frame_word number) g w)
-        (ap (λ (u : View). looked (paying layout home node.0 u) f.tail) s.after ∙ ap (λ (u : View). looked u f.tail) (paying-looked layout home node.0 v s.tail) ∙ looked-looked (paying layout home node.0 v) s.tail f.tail)
+        (ap (λ (u : View). looked (paying layout home node.0 u) f.tail) s.after ∙ ap (λ (u : View). looked u f.tail) (paying-looked layout home node.0 v s.tail) ∙ looks.looked_twice (paying layout home node.0 v) s.tail f.tail)
         f.took

@@ -8,6 +8,7 @@ use mathlib.Core.Logic.{dite}
 use native.Mathlib.Decide.{ℕ_discrete}
 use Rattle.node_frames.specs.Layout.{Layout}
 use Rattle.base_words.specs.declared.ids.NodeId.{NodeId}
+use Rattle.frame_words.specs.AddingUp.{HoldsAddUp}
 use Rattle.frame_words.specs.FrameWords.{generation, cell_word, frame_word}
 use Rattle.frame_words.specs.Views.{hold, held, holding, frame_holds, cell_loans}
 use Rattle.frame_words.specs.Splits.{HasLoan}
@@ -62,7 +63,7 @@ paid_stays layout home node v h there = step (cell_of_node layout node == home)
     step true = there
     step false = Contains-append_right (hold (cell_word (cell_of_node layout node)) 0 ∷ []) v.holds h there
 
-module _ (layout : Layout) (lends : List ℕ) (home : ℕ) (order : List NodeId) (number g : ℕ) (v w : View) (alone : v.alone ≡ true)
+module _ (hold_laws : HoldsAddUp) (layout : Layout) (lends : List ℕ) (home : ℕ) (order : List NodeId) (number g : ℕ) (v w : View) (alone : v.alone ≡ true)
     (f : Finds layout lends home order number g v w) (low : cell_of_node layout f.node.0 < 8) where
   abbrev paid : View
   paid = paying layout home f.node.0 v
@@ -78,7 +79,7 @@ module _ (layout : Layout) (lends : List ℕ) (home : ℕ) (order : List NodeId)
 
   lowest : IsLowest layout number v
   lowest = record {
-    unheld = sym (paid_frame layout home f.node.0 number v low) ∙ f.took.unheld;
+    unheld = sym (paid_frame hold_laws layout home f.node.0 number v low) ∙ f.took.unheld;
     fresh = (let known = known-before in let fresh = f.took.free.fresh in omega arith);
     lower = λ frame below on. f.own alone frame below (on ∙ f.on);
   }
@@ -86,7 +87,7 @@ module _ (layout : Layout) (lends : List ℕ) (home : ℕ) (order : List NodeId)
   frames-after : (frame : ℕ) → frame_holds w frame ≡ one_of (number == frame) + frame_holds v frame
   frames-after frame =
       let after = held-after (frame_word frame) in
-      let same = paid_frame layout home f.node.0 frame v low in
+      let same = paid_frame hold_laws layout home f.node.0 frame v low in
       dite (ℕ_discrete number frame)
       (λ e. let one = ap one_of (eq-eqb number frame e) in let here = ap one_of (eq-eqb (number + 8) (frame + 8) (omega arith)) in omega arith)
       (λ ne. let none = ap one_of (ne_eqb number frame ne) in
@@ -118,12 +119,12 @@ module _ (layout : Layout) (lends : List ℕ) (home : ℕ) (order : List NodeId)
         ∙ ap (λ (l : List ℕ). get_or l (frame_word frame) 0) (paid_known layout home f.node.0 v);
   }
 
-pub finds_lowest : (table : MadeTable) (layout : Layout) (home : ℕ) (order : List NodeId) (number g : ℕ) (v w : View) → FitsShape table layout → AreNodes layout order → v.alone ≡ true
+pub finds_lowest : HoldsAddUp → (table : MadeTable) (layout : Layout) (home : ℕ) (order : List NodeId) (number g : ℕ) (v w : View) → FitsShape table layout → AreNodes layout order → v.alone ≡ true
     → Finds layout table.terms.lends home order number g v w → IsLowest layout number v
-finds_lowest table layout home order number g v w fits nodes alone f =
-    lowest layout table.terms.lends home order number g v w alone f (cell_low table layout f.node.0 fits (node_within layout order f.place f.node nodes f.ordered))
+finds_lowest hold_laws table layout home order number g v w fits nodes alone f =
+    lowest hold_laws layout table.terms.lends home order number g v w alone f (cell_low table layout f.node.0 fits (node_within layout order f.place f.node nodes f.ordered))
 
-pub finds_gains : (table : MadeTable) (layout : Layout) (home : ℕ) (order : List NodeId) (number g : ℕ) (v w : View) → FitsShape table layout → AreNodes layout order → v.alone ≡ true
+pub finds_gains : HoldsAddUp → (table : MadeTable) (layout : Layout) (home : ℕ) (order : List NodeId) (number g : ℕ) (v w : View) → FitsShape table layout → AreNodes layout order → v.alone ≡ true
     → Finds layout table.terms.lends home order number g v w → Gains layout home number g v w
-finds_gains table layout home order number g v w fits nodes alone f =
-    gains layout table.terms.lends home order number g v w alone f (cell_low table layout f.node.0 fits (node_within layout order f.place f.node nodes f.ordered))
+finds_gains hold_laws table layout home order number g v w fits nodes alone f =
+    gains hold_laws layout table.terms.lends home order number g v w alone f (cell_low table layout f.node.0 fits (node_within layout order f.place f.node nodes f.ordered))

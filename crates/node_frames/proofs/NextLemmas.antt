@@ -9,6 +9,7 @@ use mathlib.Core.Logic.{dite}
 use native.Mathlib.Decide.{ℕ_discrete, dec_le}
 use Rattle.node_frames.specs.Layout.{Layout}
 use Rattle.base_words.specs.declared.ids.NodeId.{NodeId}
+use Rattle.frame_words.specs.AddingUp.{HoldsAddUp}
 use Rattle.frame_words.specs.FrameWords.{frame_word}
 use Rattle.frame_words.specs.Views.{cell_loans}
 use Rattle.frame_words.specs.Holders.{MadeTable}
@@ -64,24 +65,24 @@ finder_gives layout lends home node number g v w tail fewer below = dite (ℕ_di
     (λ outside. let some = below outside in
     λ i. not (ne_eqb ((left_of layout lends v).frames node) 0 (omega arith) i) && (ne_eqb (cell_of_node layout node) home outside i || not (ne_eqb ((left_of layout lends v).loans (cell_of_node layout node)) 0 (omega arith) i)))
 
-pub finds_next : (table : MadeTable) (layout : Layout) (home : ℕ) (order : List NodeId) (number g : ℕ) (v w : View) → FitsShape table layout → AreNodes layout order → v.alone ≡ true
+pub finds_next : HoldsAddUp → (table : MadeTable) (layout : Layout) (home : ℕ) (order : List NodeId) (number g : ℕ) (v w : View) → FitsShape table layout → AreNodes layout order → v.alone ≡ true
     → Finds layout table.terms.lends home order number g v w → FindsNext layout table.terms.lends home order number v w
-finds_next table layout home order number g v w fits nodes alone f =
+finds_next hold_laws table layout home order number g v w fits nodes alone f =
     let lends = table.terms.lends in
     let within = node_within layout order f.place f.node nodes f.ordered in
     let low = cell_low table layout f.node.0 fits within in
-    let fewer = frames-here layout home f.node.0 number g v w f.tail low alone f.took fits.lies.has_frames f.on lends in
+    let fewer = frames-here hold_laws layout home f.node.0 number g v w f.tail low alone f.took fits.lies.has_frames f.on lends in
     let next = find_first (λ (n : NodeId). node_gives layout home (left_of layout lends v) n.0) order f.place f.node f.ordered
     (finder_gives layout lends home f.node.0 number g v w f.tail fewer (f.below alone))
     (λ k other below there. let e = f.earlier k other below there in shows_nothing layout lends home other.0 e.0 v f.tail e.1 (e.2 alone)) in
-    let after = left_after layout home f.node.0 number g v w f.tail low alone f.took fits.lies.has_frames f.on lends table.terms.few_cells in record {
+    let after = left_after hold_laws layout home f.node.0 number g v w f.tail low alone f.took fits.lies.has_frames f.on lends table.terms.few_cells in record {
       node = f.node;
       within = within;
       on = f.on;
       next = next;
       after = after;
       chained = after ∙ ap (left_by layout home (left_of layout lends v)) (sym next);
-      alone = still_alone layout home f.node.0 number g v w f.tail low alone f.took;
+      alone = still_alone hold_laws layout home f.node.0 number g v w f.tail low alone f.took;
     }
 
 -- each node of the order gives none
@@ -103,14 +104,14 @@ finds_no_more layout lends home order list v w alone f = record {
 }
 
 -- a guest has one frame less after a search that found one, and nothing where the boot order gave none
-pub has_falls : (table : MadeTable) (layout : Layout) (home : ℕ) (order : List NodeId) (number g : ℕ) (v w : View) → FitsShape table layout → AreNodes layout order → v.alone ≡ true
+pub has_falls : HoldsAddUp → (table : MadeTable) (layout : Layout) (home : ℕ) (order : List NodeId) (number g : ℕ) (v w : View) → FitsShape table layout → AreNodes layout order → v.alone ≡ true
     → Finds layout table.terms.lends home order number g v w → has layout home (left_of layout table.terms.lends w) + 1 ≡ has layout home (left_of layout table.terms.lends v)
-has_falls table layout home order number g v w fits nodes alone f =
+has_falls hold_laws table layout home order number g v w fits nodes alone f =
     let lends = table.terms.lends in
     let within = node_within layout order f.place f.node nodes f.ordered in
     let low = cell_low table layout f.node.0 fits within in
-    let fewer = frames-here layout home f.node.0 number g v w f.tail low alone f.took fits.lies.has_frames f.on lends in
-    ap (λ (l : Left). has layout home l + 1) (left_after layout home f.node.0 number g v w f.tail low alone f.took fits.lies.has_frames f.on lends table.terms.few_cells) ∙ has-taking layout home (left_of layout lends v) f.node.0 within low (finder_gives layout lends home f.node.0 number g v w f.tail fewer (f.below alone))
+    let fewer = frames-here hold_laws layout home f.node.0 number g v w f.tail low alone f.took fits.lies.has_frames f.on lends in
+    ap (λ (l : Left). has layout home l + 1) (left_after hold_laws layout home f.node.0 number g v w f.tail low alone f.took fits.lies.has_frames f.on lends table.terms.few_cells) ∙ has-taking layout home (left_of layout lends v) f.node.0 within low (finder_gives layout lends home f.node.0 number g v w f.tail fewer (f.below alone))
 
 pub has_nothing : (layout : Layout) (lends : List ℕ) (home : ℕ) (start : NodeId) (list : List Shown) (v w : View) → start.0 < layout.nodes → v.alone ≡ true
     → FindsNone layout lends home (boot_nodes layout start) list v w → has layout home (left_of layout lends v) ≡ 0

@@ -14,6 +14,8 @@ ghost use Rattle.node_frames.specs.Alone.{FindsNext, FindsNoMore, IsLowest, Gain
 ghost use Rattle.node_frames.specs.Searches.{Finds, FindsNone};
 ghost use Rattle.node_frames.specs.declared.answers.Shown.{Shown};
 
+use frame_words::holds_and_looks_add_up;
+
 /// The frames of a node follow one another, and those of the layout's nodes are the table's.
 pub fn a_nodes_frames_are_a_range()
     ensures on { (layout : Layout) (node k : ℕ) → k < layout.frames → IsOn layout node (node * layout.frames + k) }
@@ -40,7 +42,9 @@ pub fn alone_finds_next()
         → FindsNext layout table.terms.lends home order number v w }
     ensures none { (layout : Layout) (lends : List ℕ) (home : ℕ) (order : List NodeId) (list : List Shown) (v w : View)
         → v.alone ≡ true → FindsNone layout lends home order list v w → FindsNoMore layout lends home order v w }
-{}
+{
+    holds_and_looks_add_up();
+}
 
 /// Of that node it gets the lowest frame that it can take, and gains one hold of it and, outside home, one loan.
 pub fn alone_gains_the_lowest()
@@ -50,7 +54,9 @@ pub fn alone_gains_the_lowest()
     ensures gains { (table : MadeTable) (layout : Layout) (home : ℕ) (order : List NodeId) (number generation : ℕ) (v w : View)
         → FitsShape table layout → AreNodes layout order → v.alone ≡ true
         → Finds layout table.terms.lends home order number generation v w → Gains layout home number generation v w }
-{}
+{
+    holds_and_looks_add_up();
+}
 
 /// A search by a holder that is alone lowers what a guest has by one where it answers a frame. Where the boot order
 /// gave none, from whatever home node, the guest has nothing.
@@ -62,7 +68,9 @@ pub fn has_counts_the_frames_to_come()
     ensures nothing { (layout : Layout) (lends : List ℕ) (home : ℕ) (start : NodeId) (list : List Shown) (v w : View)
         → start.0 < layout.nodes → v.alone ≡ true → FindsNone layout lends home (boot_nodes layout start) list v w
         → has layout home (left_of layout lends v) ≡ 0 }
-{}
+{
+    holds_and_looks_add_up();
+}
 
 /// To a holder that was just made each frame of each node is left, and all that each cell lends.
 pub fn first_holder_has_all()
@@ -81,7 +89,9 @@ pub fn cell_frames_count_the_cache()
     ensures nothing { (layout : Layout) (lends : List ℕ) (cell : ℕ) (list : List Shown) (v w : View) → v.alone ≡ true
         → FindsNone layout lends cell (cell_nodes layout cell) list v w
         → cell_frames layout (left_of layout lends v) cell ≡ 0 }
-{}
+{
+    holds_and_looks_add_up();
+}
 
 /// So many searches by the boot order lower what a guest has by as many, up to all that it has; and so do searches
 /// over a cell's own nodes with what is left for its cache. One search more is one after so many.

@@ -2,15 +2,11 @@
 #![tactic(auto)]
 
 mod answers;
-#[cfg(test)]
-mod boots;
 mod law;
 mod nodes;
 mod order;
 mod search;
 mod taken;
-#[cfg(test)]
-mod tests;
 
 pub use answers::{FindFault, Shown, ShownList};
 pub use law::{

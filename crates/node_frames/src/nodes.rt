@@ -13,7 +13,7 @@ ghost use Rattle.node_frames.specs.Layout.{layout_of};
 use crate::answers::Shown;
 use crate::taken::Taken;
 use base_words::{CellId, FrameNo, NodeId, Shape};
-use frame_words::{Borrow, FrameTable, Holder, Took, borrow, repay, take};
+use frame_words::{Borrow, FrameTable, Holder, Took, borrow, holds_and_looks_add_up, repay, take};
 
 // Takes the frame where it can: its new generation.
 fn try_frame(table: &FrameTable, holder: &mut Holder, frame: FrameNo) -> Option<u32>
@@ -39,6 +39,7 @@ fn scan(table: &FrameTable, holder: &mut Holder, first: u32, last: u32) -> Optio
     ensures scanned { ScannedBy first last holder.old.view result holder.new.view }
     ensures same { holder.new.table ≡ holder.old.table }
 {
+    holds_and_looks_add_up();
     for number in first..last {
         if let Some(generation) = try_frame(table, holder, FrameNo(number)) {
             return Some(Taken {
@@ -77,6 +78,7 @@ fn seek_inside(
     ensures sought { SoughtBy (layout_of shape.now) table.now.terms.lends home.0 node.0 holder.old.view result holder.new.view }
     ensures same { holder.new.table ≡ holder.old.table }
 {
+    holds_and_looks_add_up();
     let _home = home;
     let (first, last) = frames_of(table, shape, node);
     match scan(table, holder, first, last) {
@@ -115,6 +117,7 @@ fn seek_outside(
     ensures sought { SoughtBy (layout_of shape.now) table.now.terms.lends home.0 node.0 holder.old.view result holder.new.view }
     ensures same { holder.new.table ≡ holder.old.table }
 {
+    holds_and_looks_add_up();
     let _home = home;
     let (first, last) = frames_of(table, shape, node);
     match borrow(table, holder, cell) {

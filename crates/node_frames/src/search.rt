@@ -10,7 +10,7 @@ use crate::answers::{FindFault, Shown, ShownList};
 use crate::nodes::seek;
 use crate::taken::Taken;
 use base_words::{CellId, Frame, FrameNo, NodeList, Page, Shape};
-use frame_words::{FrameTable, Holder, give_back, repay};
+use frame_words::{FrameTable, Holder, give_back, holds_and_looks_add_up, repay};
 use std::alloc::Global;
 
 /// Takes the first frame that it can, by the order of nodes and by frame number, with a loan of the node's cell
@@ -35,6 +35,7 @@ pub fn find(
         fault holder.old.view holder.new.view) }
     ensures same { holder.new.table ≡ holder.old.table }
 {
+    holds_and_looks_add_up();
     let page = Page::zeroed(alloc)?;
     let mut shown = vec![in alloc; Shown::AllHeld; order.len()]?;
     for (place, node) in order.as_slice().iter().enumerate() {
@@ -63,6 +64,7 @@ pub fn release(table: &FrameTable, holder: &mut Holder, shape: &Shape, home: Cel
     ensures released { Releases (layout_of shape.now) home.0 frame.0 holder.old.view holder.new.view }
     ensures same { holder.new.table ≡ holder.old.table }
 {
+    holds_and_looks_add_up();
     let lender = shape.cell_of(frame);
     give_back(table, holder, frame);
     if lender != home {

@@ -1,9 +1,9 @@
 -- What a stream had left, and what was taken of it.
-use Rattle.std.proofs.Common.{◌≡◌, ℕ, ◌+◌, ◌<◌, ◌≤◌, List, [], ◌++◌, length, length-append, Option, Some, None, IfSome, ap, sym, ◌∙◌, arith}
+use Rattle.std.proofs.Common.{◌≡◌, ℕ, ◌+◌, ◌<◌, ◌≤◌, List, [], ◌++◌, length, length-append, take, drop, take-append-drop, append_assoc, Option, Some, None, IfSome, ap, sym, ◌∙◌, arith}
 use Rattle.std.proofs.lemmas.List.{append-nil}
-use Rattle.std.proofs.KnownBytes.{Consumes-trans, Consumes-kept, Consumes-all}
-use Rattle.std.specs.Io.KnownBytes.{Consumes, Keeps, IsAtEnd}
-use Rattle.outside_io.specs.Streams.{TakesUpTo}
+use Rattle.std.proofs.KnownBytes.{Appends-trans, Consumes-trans, Consumes-kept, Consumes-all}
+use Rattle.std.specs.Io.KnownBytes.{Appends, Consumes, Keeps, IsAtEnd}
+use Rattle.outside_io.specs.Streams.{TakesUpTo, TakesAllBut}
 
 -- who gave so many bytes had as many
 pub longer-Consumes : (a b : Option (List ℕ)) (taken : List ℕ) (most : ℕ) → Consumes a b taken → most < length taken → IfSome a (λ all. most < length all)
@@ -27,3 +27,11 @@ TakesUpTo-twice a b c first second most one two within = record {
 -- a read that failed takes nothing
 pub TakesUpTo-kept : (a b c : Option (List ℕ)) (taken : List ℕ) (most : ℕ) → Consumes a b taken → Keeps b c → length taken ≤ most → TakesUpTo a c most
 TakesUpTo-kept a b c taken most consumes kept within = record { taken = taken; few = within; consumes = Consumes-kept a b c taken consumes kept }
+
+-- some more was taken
+pub TakesAllBut-more : (a b c : Option (List ℕ)) (bytes left : List ℕ) (count : ℕ) → TakesAllBut a b bytes left → Appends b c (take count left) → TakesAllBut a c bytes (drop count left)
+TakesAllBut-more a b c bytes left count far more = record {
+  part = far.part ++ take count left;
+  prefix = append_assoc far.part (take count left) (drop count left) ∙ ap (λ (xs : List ℕ). far.part ++ xs) (take-append-drop count left) ∙ far.prefix;
+  appends = Appends-trans a b c far.part (take count left) far.appends more;
+}

@@ -1,5 +1,6 @@
 pub mod Collected
 pub mod Held
+pub mod Pieces
 pub mod Reading
 pub mod Streams
 pub mod System

@@ -1,14 +1,14 @@
 //! Files of the system.
-ghost use Rattle.std.specs.Prelude.{◌≡◌, ◌+◌, []};
+ghost use Rattle.std.specs.Prelude.{◌≡◌, ◌+◌, [], None};
 ghost use Rattle.outside_io.specs.Reading.{Reads};
 ghost use Rattle.outside_io.specs.System.{files_view, FilesLeave};
-ghost use Rattle.outside_io.specs.Streams.{Streams, StreamsKnown, TakesUpTo};
+ghost use Rattle.outside_io.specs.Streams.{Streams, StreamsHeld, StreamsKnown, TakesUpTo};
 
 use crate::{Shelf, ShelfFault};
 use base_words::{Bytes, Name};
 use std::alloc::Global;
 use std::fs;
-use std::io::Read;
+use std::io::{self, Read};
 use std::marker::Model;
 use std::rt::Files;
 
@@ -64,11 +64,44 @@ fn read_stream<F: Read>(alloc: Global, file: &mut F, most: u64) -> Result<Bytes,
     Err(ShelfFault::Failed)
 }
 
+/// What opens files by their paths.
+trait Opens<F: Read> {
+    ghost use Rattle.std.specs.Prelude.{List, ℕ, Option, IfOk};
+    ghost use Rattle.outside_io.specs.Streams.{Opened};
+
+    /// The bytes that a path leads to, where they are told.
+    ghost held: { Self → List ℕ → Option (List ℕ) };
+
+    /// A file that is read from its start.
+    fn open(&self, path: &str) -> io::Result<F>
+        ensures { IfOk result (λ file. Opened (held self.now path.now) (F.remaining file)) };
+}
+
+/// The files of a runtime. It tells nothing of them.
+#[derive(Drop)]
+struct Paths<'a, R: Files> {
+    rt: &'a R,
+}
+
+impl<'a, R: Files> Opens<R::File> for Paths<'a, R> {
+    ghost held = { λ _ _. None };
+
+    fn open(&self, path: &str) -> io::Result<R::File> {
+        fs::open(self.rt, path)
+    }
+}
+
 /// The bytes of the file at a path, unless they are more than `most`.
-fn read_file<R: Files>(alloc: Global, rt: &R, path: &str, most: u64) -> Result<Bytes, ShelfFault>
-    ensures { Streams most result }
+fn read_file<F: Read + Drop, O: Opens<F>>(
+    alloc: Global,
+    files: &O,
+    path: &str,
+    most: u64,
+) -> Result<Bytes, ShelfFault>
+    ensures limit { Streams most result }
+    ensures held { StreamsHeld (O.held files.now path.now) most result }
 {
-    match fs::open(rt, path) {
+    match files.open(path) {
         Ok(mut file) => read_stream(alloc, &mut file, most),
         Err(_) => Err(ShelfFault::Failed),
     }
@@ -91,7 +124,7 @@ impl<'a, R: Files> Shelf for FileShelf<'a, R> {
         ensures leaves { FilesLeave self.old self.new name.now result }
     {
         let copy = Name::copy_of(alloc, name)?;
-        match read_file(alloc, self.rt, name, most) {
+        match read_file(alloc, &Paths { rt: self.rt }, name, most) {
             Ok(bytes) => Ok(bytes),
             Err(ShelfFault::Failed) => {
                 self.faults = self.faults.saturating_add(1);

@@ -1,9 +1,11 @@
 //! The system's standard output.
 ghost use Rattle.std.specs.Prelude.{◌≡◌, false, true, Ok};
 ghost use Rattle.outside_io.specs.Writing.{Puts, Finishes};
+ghost use Rattle.outside_io.specs.Streams.{TakesAll};
 ghost use Rattle.outside_io.specs.System.{output_view, OutputLeaves};
 
 use crate::{Sink, SinkFault};
+use std::io::{self, Write};
 use std::marker::Model;
 
 /// The standard output. It tells nothing of what it holds.
@@ -35,14 +37,16 @@ impl<'a, P: Print> OutSink<'a, P> {
     }
 }
 
-/// Writes all bytes, in as many pieces as it takes; whether the output took them.
-fn write_all<P: Print>(to: &P, bytes: &[u8]) -> bool {
+/// Writes all bytes in order, in as many pieces as it takes; whether they were taken. Where not, a part of them may have been.
+fn write_all<W: Write>(to: &mut W, bytes: &[u8]) -> bool
+    ensures { TakesAll (W.contents to.old) (W.contents to.new) bytes.now result }
+{
     let mut rest = bytes;
     for _ in 0..bytes.len() {
         if rest.is_empty() {
             return true;
         }
-        match to.write_some(rest) {
+        match to.write(rest) {
             Ok(count) if count > 0 => rest = &rest[count..],
             _ => return false,
         }
@@ -63,7 +67,7 @@ impl<'a, P: Print> Sink for OutSink<'a, P> {
         ensures leaves { OutputLeaves self.old self.new result }
     {
         self.settled = false;
-        if write_all(self.to, bytes) {
+        if write_all(&mut io::writer(self.to), bytes) {
             return Ok(());
         }
         self.faults = self.faults.saturating_add(1);

@@ -9,6 +9,3 @@ mod rows;
 pub use base_words::{NodeId, Policy, Ppn};
 pub use choice::Choice;
 pub use counters::Counters;
-
-#[cfg(test)]
-mod tests;

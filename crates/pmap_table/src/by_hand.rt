@@ -3,8 +3,7 @@ use crate::Pmap;
 use crate::backed::BackedPage;
 use crate::open_move::{Change, PendingMove};
 use base_words::{
-    CellId, Frame, FrameList, FrameNo, MoveKind, Page, Ppn, ProcId, ProcSet, Sequence, Shape,
-    SharedFrame,
+    CellId, Frame, FrameNo, MoveKind, Page, ProcId, ProcSet, Sequence, Shape, SharedFrame,
 };
 use std::alloc::{AllocError, Global};
 use std::process::Abort;
@@ -29,43 +28,6 @@ pub(crate) fn shared(alloc: Global, number: u32) -> Result<SharedFrame, AllocErr
         generation: frame.generation,
         page: Arc::new(alloc, frame.page)?,
     })
-}
-
-pub(crate) fn frames(alloc: Global, numbers: &[u32]) -> Result<FrameList, AllocError> {
-    let mut frames = Sequence::new(alloc);
-    for number in numbers {
-        frames.push(frame(alloc, *number)?)?;
-    }
-    Ok(frames)
-}
-
-/// A table at its start, over frames of these numbers.
-pub(crate) fn boot(rt: &impl Abort, alloc: Global, numbers: &[u32]) -> Result<Pmap, AllocError> {
-    let frames = frames(alloc, numbers)?;
-    assert!(rt; frames.len() < 100);
-    Pmap::boot(alloc, frames)
-}
-
-/// The word at an offset of a page.
-pub(crate) fn read(rt: &impl Abort, pmap: &Pmap, page: Ppn, offset: u32) -> u32 {
-    assert!(rt; page.0 < pmap.len() && offset < 4096 && offset % 4 == 0);
-    pmap.word(page, offset)
-}
-
-/// Another word at an offset of a page, which is the guest's own and has no replicas.
-pub(crate) fn write(rt: &impl Abort, pmap: &mut Pmap, page: Ppn, offset: u32, word: u32) {
-    assert!(rt; page.0 < pmap.len() && offset < 4096 && offset % 4 == 0);
-    assert!(rt; !pmap.is_shared(page));
-    assert_eq!(rt; pmap.replicas(page), 0);
-    pmap.set_word(page, offset, word);
-}
-
-/// The first bytes of page 0 become those of another.
-pub(crate) fn copy(rt: &impl Abort, pmap: &mut Pmap, from: &Page, length: u32) {
-    assert!(rt; 0 < pmap.len() && length <= 4096);
-    assert!(rt; !pmap.is_shared(Ppn(0)));
-    assert_eq!(rt; pmap.replicas(Ppn(0)), 0);
-    pmap.copy_in(Ppn(0), from, length);
 }
 
 /// These frames are given up in this order, and then nothing is left.

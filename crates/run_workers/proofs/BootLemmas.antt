@@ -24,7 +24,7 @@ use Rattle.std.proofs.Math.Nat.{mul-le-mul_left, mul-le-mul_right}
 use Rattle.guest_core.specs.GuestView.{Monitored, Shared, IsAtStart}
 use Rattle.guest_core.specs.Holding.{FitsAround}
 use Rattle.guest_core.specs.Starting.{MayStart, booted_with}
-use Rattle.run_workers.specs.Starting.{IsBuilt, IsSource, AreSources, IsStart, around_of}
+use Rattle.run_workers.specs.Starting.{IsBuilt, IsSource, AreSources, IsPlaced, IsStart, around_of}
 use Rattle.run_workers.specs.Booting.{home_in, IsSite, IsSeat, board_of, AreSeats, IsStarted, AreBooted, AreWires, HasPasses, HaveAllPasses}
 use Rattle.wire_queue.specs.Between.{Made}
 use Rattle.wire_queue.specs.PassLists.{IsListOf, IsUnused}
@@ -171,8 +171,8 @@ next-source machine plan sources yielded rest now source described are all first
 
 -- ---- one guest at its start
 
-pub started : (machine : Machine) (plan : Plan) (around : Around) (source : Source) (spec : GuestSpec) (frames : List Frame) (input : List InputEntry) (seat : Seat) (shared : Shared) (passes : PassList) (holder : TableId) (number : ℕ) (guest : Monitored) → IsSite machine around.site → around.number.0 ≡ number → around.home ≡ spec.node → slice_get machine.guests number ≡ Some spec → slice_get plan.input number ≡ Some input → length frames ≡ length source.image.pages → seat.number ≡ number → IsAtStart seat.number (booted_with around source.image spec.vcpus frames source.disk input) seat.board holder shared.wires passes guest → holder ≡ shared.table.id → FitsAround shared.table (surroundings around) → passes.guest.0 ≡ number → IsStarted (described_seen machine plan) source seat.board shared number guest
-started machine plan around source spec frames input seat shared passes holder number guest site of home spec-is input-is backed seat-is at made fits own =
+pub started : (machine : Machine) (plan : Plan) (around : Around) (source : Source) (spec : GuestSpec) (frames : List Frame) (input : List InputEntry) (seat : Seat) (shared : Shared) (passes : PassList) (holder : TableId) (number : ℕ) (guest : Monitored) → IsSite machine around.site → around.number.0 ≡ number → around.home ≡ spec.node → slice_get machine.guests number ≡ Some spec → slice_get plan.input number ≡ Some input → IsPlaced (described_seen machine plan) number spec (map found_of frames) → seat.number ≡ number → IsAtStart seat.number (booted_with around source.image spec.vcpus frames source.disk input) seat.board holder shared.wires passes guest → holder ≡ shared.table.id → FitsAround shared.table (surroundings around) → passes.guest.0 ≡ number → IsStarted (described_seen machine plan) source seat.board shared number guest
+started machine plan around source spec frames input seat shared passes holder number guest site of home spec-is input-is placed seat-is at made fits own =
     let d = described_seen machine plan in
     let lies : surroundings around ≡ around_of d number spec = λ k. record {
       guest = of k;
@@ -189,7 +189,7 @@ started machine plan around source spec frames input seat shared passes holder n
       vcpus = refl;
       disk_is = refl;
       input_is = refl;
-      backed = length-map frames found_of ∙ backed;
+      placed = placed;
     } in
     record {
       fresh = record {

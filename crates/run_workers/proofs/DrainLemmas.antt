@@ -50,7 +50,7 @@ ends-refl g = record {
   stays = record { journal = refl; state = refl; view = refl };
   notes = refl;
   room = refl;
-  ends = record { guest = refl; sends = λ to. refl; takes = λ from. refl };
+  ends = record { guest = refl; asks = refl; sends = λ to. refl; takes = λ from. refl };
 }
 
 pub ends-trans : (g h k : Monitored) → KeepsEnds g h → KeepsEnds h k → KeepsEnds g k
@@ -59,7 +59,7 @@ ends-trans g h k a b = record {
   stays = record { journal = b.stays.journal ∙ a.stays.journal; state = b.stays.state ∙ a.stays.state; view = b.stays.view ∙ a.stays.view };
   notes = b.notes ∙ a.notes;
   room = b.room ∙ a.room;
-  ends = record { guest = b.ends.guest ∙ a.ends.guest; sends = λ to. b.ends.sends to ∙ a.ends.sends to; takes = λ from. b.ends.takes from ∙ a.ends.takes from };
+  ends = record { guest = b.ends.guest ∙ a.ends.guest; asks = b.ends.asks ∙ a.ends.asks; sends = λ to. b.ends.sends to ∙ a.ends.sends to; takes = λ from. b.ends.takes from ∙ a.ends.takes from };
 }
 
 pub kept-refl : (gs : List Monitored) → AreKept gs gs

@@ -1,11 +1,7 @@
-pub mod NoteLists
-pub mod JournalLemmas
-pub mod SliceLemmas
-pub mod ServeLemmas
-pub mod DealLemmas
-pub mod DueLemmas
+pub mod CarryLemmas
 pub mod LoopLemmas
 pub mod WholeLemmas
+pub mod LeftoverLemmas
 pub mod PacketLemmas
 pub mod RunLemmas
 pub mod ServingLemmas

@@ -1,42 +1,22 @@
--- One more item, and one more guest.
-use Rattle.std.proofs.Common.{◌≡◌, ℕ, zero, suc, ◌+◌, ◌<◌, ◌≤◌, ◌==◌, if◌then◌else◌, Bool, true, false, List, [], ◌∷◌, ◌++◌, map, take, drop, length, get_or, refl, sym, ap, ◌∙◌, subst, arith, append-nil, Option, Some, None}
-use Rattle.std.specs.Prelude.{slice_get, slice_set}
+-- One outcome more, and one more guest.
+use Rattle.std.proofs.Common.{◌≡◌, ℕ, zero, suc, ◌+◌, ◌<◌, ◌≤◌, List, [], ◌∷◌, ◌++◌, map, drop, length, get_or, refl, sym, ap, ◌∙◌, subst, arith, append_assoc, Option, Some}
+use Rattle.std.specs.Prelude.{slice_get, slice_set, flat_map}
 use Rattle.atomic_table.specs.Seated.{TableId}
-use Rattle.base_words.specs.declared.ids.ProcId.{ProcId}
-use Rattle.base_words.specs.declared.ids.GuestId.{GuestId}
-use Rattle.base_words.specs.declared.ids.VcpuId.{VcpuId}
-use Rattle.base_words.specs.declared.ids.NodeId.{NodeId}
-use Rattle.base_words.specs.declared.ids.CellId.{CellId}
-use Rattle.base_words.specs.declared.ids.Ppn.{Ppn}
-use Rattle.base_words.specs.declared.moves.MoveKind.{MoveKind}
-use Rattle.shootdown.specs.Notes.{Token, Seat, sided}
+use Rattle.shootdown.specs.Notes.{Seat}
 use Rattle.isolation_law.specs.GuestState.{GuestState}
 use Rattle.isolation_law.specs.Start.{Boot}
 use Rattle.machine_desc.specs.declared.plan.Item.{Item}
 use Rattle.machine_desc.specs.declared.plan.Item.TheVariants.{Run, Move, Fail}
 use Rattle.guest_core.specs.declared.records.GuestRecord.{GuestRecord}
-use Rattle.guest_core.specs.declared.records.SliceRecord.{SliceRecord}
 use Rattle.guest_core.specs.GuestView.{Monitored, Shared}
 use Rattle.guest_lock.specs.Guests.{GuestsFrom}
-use Rattle.run_workers.specs.Planned.{Planned, planned}
-use Rattle.run_workers.specs.Slices.{own, AreTold}
-use Rattle.run_workers.specs.Working.{is_own, planned_as, CarriesOne}
-use Rattle.run_workers.specs.Ending.{Leaves, AreLeft}
-use Rattle.run_workers.specs.Dealt.{queue_of, front, behind, without_front, dealt}
+use Rattle.plan_due.specs.Planned.{Planned, planned_as, planned}
+use Rattle.plan_due.specs.Dealt.{queue_of, front, behind, without_front, dealt}
+use Rattle.plan_due.specs.declared.outcome.Outcome.{Outcome}
 use Rattle.run_workers.specs.Parts.{as_list}
-use Rattle.run_workers.proofs.ServeLemmas.{told-more}
+use Rattle.run_workers.specs.Ending.{Leaves, AreLeft}
 
 -- ---- lists
-
-take-more : {A : Type 0} (xs : List A) (n : ℕ) (d : A) → n < length xs → take (n + 1) xs ≡ take n xs ++ get_or xs n d ∷ []
-take-more [] n d l = absurd (let m : n < 0 = l in omega arith)
-take-more (x ∷ xs) zero d l = refl
-take-more (x ∷ xs) (suc n) d l = subst (λ k. take k (x ∷ xs) ≡ x ∷ (take n xs ++ get_or xs n d ∷ [])) (let e : suc (n + 1) ≡ suc n + 1 = omega arith in e) (ap (λ ys. x ∷ ys) (take-more xs n d (omega arith)))
-
-take-length : {A : Type 0} (xs : List A) (n : ℕ) → n ≤ length xs → length (take n xs) ≡ n
-take-length xs zero l = refl
-take-length [] (suc n) l = absurd (let m : suc n ≤ 0 = l in omega arith)
-take-length (x ∷ xs) (suc n) l = ap suc (take-length xs n (omega arith))
 
 pub drop-more : {A : Type 0} (xs : List A) (n : ℕ) (d : A) → n < length xs → drop n xs ≡ get_or xs n d ∷ drop (n + 1) xs
 drop-more [] n d l = absurd (let m : n < 0 = l in omega arith)
@@ -54,70 +34,37 @@ map-set f [] i x = refl
 map-set f (y ∷ ys) zero x = refl
 map-set f (y ∷ ys) (suc i) x = ap (λ l. f y ∷ l) (map-set f ys i x)
 
--- ---- items
-
-planned-append : (k : ℕ) (xs ys : List Item) → planned k (xs ++ ys) ≡ planned k xs ++ planned (k + length xs) ys
-planned-append k [] ys = ap (λ n. planned n ys) (let e : k ≡ k + 0 = omega arith in e)
-planned-append k (Run p g v steps ∷ xs) ys = ap (λ l. record { item = k; processor = p.0; guest = g.0; vcpu = v.0; steps = steps } ∷ l) (planned-append (suc k) xs ys ∙ ap (λ n. planned (suc k) xs ++ planned n ys) (let e : suc k + length xs ≡ k + suc (length xs) = omega arith in e))
-planned-append k (Move p g page kind node ∷ xs) ys = planned-append (suc k) xs ys ∙ ap (λ n. planned (suc k) xs ++ planned n ys) (let e : suc k + length xs ≡ k + suc (length xs) = omega arith in e)
-planned-append k (Fail p cell ∷ xs) ys = planned-append (suc k) xs ys ∙ ap (λ n. planned (suc k) xs ++ planned n ys) (let e : suc k + length xs ≡ k + suc (length xs) = omega arith in e)
-
-own-append : (p : ℕ) (xs ys : List Planned) → own p (xs ++ ys) ≡ own p xs ++ own p ys
-own-append p [] ys = refl
-own-append p (x ∷ xs) ys = one (x.processor == p) x (own p (xs ++ ys)) (own p xs) (own p ys) (own-append p xs ys)
-  where
-    one : (b : Bool) (x : Planned) (all first next : List Planned) → all ≡ first ++ next → (if b then x ∷ all else all) ≡ (if b then x ∷ first else first) ++ next
-    one true x all first next e = ap (λ l. x ∷ l) e
-    one false x all first next e = e
-
-own-one : (p k : ℕ) (item : Item) → is_own p item ≡ true → own p (planned k (item ∷ [])) ≡ planned_as k item ∷ []
-own-one p k (Run q g v steps) e = ap (λ b. if b then record { item = k; processor = q.0; guest = g.0; vcpu = v.0; steps = steps } ∷ [] else []) e
-own-one p k (Move q g page kind node) e = absurd cc
-own-one p k (Fail q cell) e = absurd cc
-
-own-none : (p k : ℕ) (item : Item) → is_own p item ≡ false → own p (planned k (item ∷ [])) ≡ []
-own-none p k (Run q g v steps) e = ap (λ b. if b then record { item = k; processor = q.0; guest = g.0; vcpu = v.0; steps = steps } ∷ [] else []) e
-own-none p k (Move q g page kind node) e = refl
-own-none p k (Fail q cell) e = refl
-
-own-next : (p n : ℕ) (items : List Item) (d : Item) → n < length items → own p (planned 0 (take (n + 1) items)) ≡ own p (planned 0 (take n items)) ++ own p (planned n (get_or items n d ∷ []))
-own-next p n items d l =
-    let item = get_or items n d in
-    ap (λ xs. own p (planned 0 xs)) (take-more items n d l)
-    ∙ ap (own p) (planned-append 0 (take n items) (item ∷ []))
-    ∙ own-append p (planned 0 (take n items)) (planned (0 + length (take n items)) (item ∷ []))
-    ∙ ap (λ k. own p (planned 0 (take n items)) ++ own p (planned k (item ∷ []))) (let e = take-length items n (omega arith) in let f : 0 + length (take n items) ≡ n = omega arith in f)
-
--- an item of another processor changes nothing
-carry-none : (n : ℕ) (items : List Item) (d : Item) (old new : Token) (slices : List SliceRecord) → n < length items → AreTold (own old.number (planned 0 (take n items))) slices old.notes → CarriesOne n (get_or items n d) old None new → AreTold (own new.number (planned 0 (take (n + 1) items))) slices new.notes
-carry-none n items d old new slices l are carries =
-    subst (λ (t : Token). AreTold (own t.number (planned 0 (take (n + 1) items))) slices t.notes) (sym carries.1)
-    (subst (λ plan. AreTold plan slices old.notes) (sym (own-next old.number n items d l ∙ ap (λ xs. own old.number (planned 0 (take n items)) ++ xs) (own-none old.number n (get_or items n d) carries.0) ∙ append-nil (own old.number (planned 0 (take n items))))) are)
-
--- one of its own adds its slice
-carry-some : (n : ℕ) (items : List Item) (d : Item) (old new : Token) (slices : List SliceRecord) (slice : SliceRecord) → n < length items → AreTold (own old.number (planned 0 (take n items))) slices old.notes → CarriesOne n (get_or items n d) old (Some slice) new → AreTold (own new.number (planned 0 (take (n + 1) items))) (slices ++ slice ∷ []) new.notes
-carry-some n items d old new slices slice l are carries =
-    let served = carries.1 in
-    subst (λ (t : Token). AreTold (own t.number (planned 0 (take (n + 1) items))) (slices ++ slice ∷ []) t.notes) (sym served.token)
-    (subst (λ plan. AreTold plan (slices ++ slice ∷ []) (old.notes ++ map (sided (planned_as n (get_or items n d)).guest) served.told)) (sym (own-next old.number n items d l ∙ ap (λ xs. own old.number (planned 0 (take n items)) ++ xs) (own-one old.number n (get_or items n d) carries.0)))
-    (told-more (own old.number (planned 0 (take n items))) slices old.notes (planned_as n (get_or items n d)) slice served.told are served.is))
-
-pub carry-next : (n : ℕ) (items : List Item) (d : Item) (old new : Token) (slices : List SliceRecord) (slice : Option SliceRecord) → n < length items → AreTold (own old.number (planned 0 (take n items))) slices old.notes → CarriesOne n (get_or items n d) old slice new → AreTold (own new.number (planned 0 (take (n + 1) items))) (slices ++ as_list slice) new.notes
-carry-next n items d old new slices None l are carries = subst (λ s. AreTold (own new.number (planned 0 (take (n + 1) items))) s new.notes) (sym (append-nil slices)) (carry-none n items d old new slices l are carries)
-carry-next n items d old new slices (Some slice) l are carries = carry-some n items d old new slices slice l are carries
+pub flat_map-append : {A B : Type 0} (f : A → List B) (xs ys : List A) → flat_map f (xs ++ ys) ≡ flat_map f xs ++ flat_map f ys
+flat_map-append f [] ys = refl
+flat_map-append f (x ∷ xs) ys = ap (λ l. f x ++ l) (flat_map-append f xs ys) ∙ sym (append_assoc (f x) (flat_map f xs) (flat_map f ys))
 
 -- ---- dealing
 
--- a run item gets the next slice of its processor
-pub deal-run : (items : List Item) (n : ℕ) (d : Item) (p : ProcId) (g : GuestId) (v : VcpuId) (steps : ℕ) (queues : List (List SliceRecord)) → n < length items → get_or items n d ≡ Run p g v steps → dealt (planned n (drop n items)) queues ≡ front (queue_of queues p.0) ++ dealt (planned (n + 1) (drop (n + 1) items)) (without_front queues p.0)
-deal-run items n d p g v steps queues l is = ap (λ xs. dealt (planned n xs) queues) (drop-more items n d l ∙ ap (λ i. i ∷ drop (n + 1) items) is) ∙ ap (λ k. front (queue_of queues p.0) ++ dealt (planned k (drop (n + 1) items)) (without_front queues p.0)) (let e : suc n ≡ n + 1 = omega arith in e)
+-- an item gets the next outcome of its processor
+pub deal-next : (items : List Item) (n : ℕ) (d : Item) (p : ℕ) (queues : List (List Outcome)) → n < length items → p ≡ (planned_as 0 (get_or items n d)).processor
+    → dealt (planned n (drop n items)) queues ≡ front (queue_of queues p) ++ dealt (planned (n + 1) (drop (n + 1) items)) (without_front queues p)
+deal-next items n d p queues l is =
+    let item = get_or items n d in
+    ap (λ xs. dealt (planned n xs) queues) (drop-more items n d l)
+    ∙ ap (λ k. front (queue_of queues (planned_as n item).processor) ++ dealt (planned k (drop (n + 1) items)) (without_front queues (planned_as n item).processor)) (let e : suc n ≡ n + 1 = omega arith in e)
+    ∙ ap (λ q. front (queue_of queues q) ++ dealt (planned (n + 1) (drop (n + 1) items)) (without_front queues q)) (same item ∙ sym is)
+  where
+    same : (item : Item) → (planned_as n item).processor ≡ (planned_as 0 item).processor
+    same item = by item
+      where
+        by : (i : Item) → (planned_as n i).processor ≡ (planned_as 0 i).processor
+        by (Run p g v steps) = refl
+        by (Move p g page kind node) = refl
+        by (Fail p cell) = refl
 
--- and another one gets nothing
-pub deal-move : (items : List Item) (n : ℕ) (d : Item) (p : ProcId) (g : GuestId) (page : Ppn) (kind : MoveKind) (node : NodeId) (queues : List (List SliceRecord)) → n < length items → get_or items n d ≡ Move p g page kind node → dealt (planned n (drop n items)) queues ≡ dealt (planned (n + 1) (drop (n + 1) items)) queues
-deal-move items n d p g page kind node queues l is = ap (λ xs. dealt (planned n xs) queues) (drop-more items n d l ∙ ap (λ i. i ∷ drop (n + 1) items) is) ∙ ap (λ k. dealt (planned k (drop (n + 1) items)) queues) (let e : suc n ≡ n + 1 = omega arith in e)
-
-pub deal-fail : (items : List Item) (n : ℕ) (d : Item) (p : ProcId) (cell : CellId) (queues : List (List SliceRecord)) → n < length items → get_or items n d ≡ Fail p cell → dealt (planned n (drop n items)) queues ≡ dealt (planned (n + 1) (drop (n + 1) items)) queues
-deal-fail items n d p cell queues l is = ap (λ xs. dealt (planned n xs) queues) (drop-more items n d l ∙ ap (λ i. i ∷ drop (n + 1) items) is) ∙ ap (λ k. dealt (planned k (drop (n + 1) items)) queues) (let e : suc n ≡ n + 1 = omega arith in e)
+-- and what is put of it comes before what the rest is dealt
+pub put-next : {B : Type 0} (f : Outcome → List B) (was new all : List B) (first dealt_now : List Outcome) (plan : List Planned) (queues left : List (List Outcome)) (outcome : Option Outcome)
+    → new ≡ was ++ flat_map f (as_list outcome) → as_list outcome ≡ first → dealt_now ≡ first ++ dealt plan left → queues ≡ left → was ++ flat_map f dealt_now ≡ all → new ++ flat_map f (dealt plan queues) ≡ all
+put-next f was new all first dealt_now plan queues left outcome grown is deal same before =
+    (λ k. grown k ++ flat_map f (dealt plan (same k)))
+    ∙ append_assoc was (flat_map f (as_list outcome)) (flat_map f (dealt plan left))
+    ∙ ap (λ l. was ++ l) ((λ k. flat_map f (is k) ++ flat_map f (dealt plan left)) ∙ sym (flat_map-append f first (dealt plan left)) ∙ ap (flat_map f) (sym deal))
+    ∙ before
 
 -- ---- guests
 
@@ -151,7 +98,7 @@ left-within starts board k (s ∷ states) (r ∷ lefts) (t ∷ seats) are l =
     named-within (y ∷ ys) (suc i) x e = let r = named-within ys i x e in omega arith
 
 -- the first is dropped
-pub behind-drop : (queue : List SliceRecord) → drop 1 queue ≡ behind queue
+pub behind-drop : (queue : List Outcome) → drop 1 queue ≡ behind queue
 behind-drop [] = refl
 behind-drop (slice ∷ queue) = refl
 

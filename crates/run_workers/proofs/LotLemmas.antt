@@ -1,10 +1,10 @@
 -- The holder of a lot is what a guest of its frames is booted with.
-use Rattle.std.proofs.Common.{◌≡◌, ℕ, zero, suc, ◌+◌, ◌*◌, ◌/◌, ◌<◌, ◌==◌, ◌&&◌, not, cond, if◌then◌else◌, Some, Bool, true, false, List, [], ◌∷◌, length, map, drop, get_or, refl, sym, ap, ◌∙◌, subst, arith}
+use Rattle.std.proofs.Common.{◌≡◌, ℕ, zero, suc, ◌+◌, ◌*◌, ◌/◌, ◌<◌, ◌==◌, ◌&&◌, not, cond, if◌then◌else◌, Some, Bool, true, false, List, [], ◌∷◌, ◌++◌, length, map, drop, get_or, refl, sym, ap, ◌∙◌, subst, arith}
 use Rattle.std.proofs.lemmas.Bool.{eqb-true, and_parts, and_left, and_right, and_from}
 use Rattle.std.proofs.lemmas.List.{length-map}
 use Rattle.std.proofs.lemmas.List.Elements.{All-head, All-tail, All-get_or}
 use Rattle.std.proofs.lemmas.List.Sums.{sum_by-cons}
-use Rattle.std.specs.Prelude.{count_by, All, Contains, slice_get}
+use Rattle.std.specs.Prelude.{count_by, All, Contains, slice_get, take}
 use Rattle.base_words.specs.declared.frame.Frame.{Frame}
 use Rattle.base_words.specs.declared.ids.CellId.{CellId}
 use Rattle.frame_words.specs.FrameWords.{frame_word}
@@ -22,10 +22,17 @@ use Rattle.guest_course.specs.BootCalls.{found_of}
 use Rattle.guest_course.specs.CourseView.{surroundings}
 use Rattle.guest_course.specs.declared.site.Around.{Around}
 use Rattle.guest_core.specs.Holding.{is_copy, frames_around, found_times, HoldsFor, FitsAround}
-use Rattle.run_workers.specs.Booting.{IsSite}
+use Rattle.run_workers.specs.Booting.{IsSite, IsLotOf, left_behind}
+use Rattle.run_workers.specs.Starting.{left_for, IsPlaced}
 use Rattle.node_frames.specs.Places.{cell_of_node}
 use Rattle.boot_frames.specs.Loans.{loans_in, cell_of_frame as frame_cell}
 use Rattle.boot_frames.specs.Lots.{Has, IsNew}
+use Rattle.boot_frames.specs.Chain.{after_claim, after_claims, frame_at}
+use Rattle.boot_frames.specs.Claims.{cache_claims, page_claim, page_claims}
+use Rattle.boot_frames.specs.Needs.{need_of}
+use Rattle.boot_frames.specs.declared.claims.Claim.{Claim}
+use Rattle.node_frames.specs.Left.{Left, first_left}
+use Rattle.machine_desc.specs.Described.{described_seen}
 use Rattle.boot_frames.specs.declared.lots.Lot.{Lot}
 
 -- what is counted of the frames that were found is counted of the frames
@@ -148,6 +155,47 @@ fits-around table machine plan around spec described words lends site home =
           let all = subst (λ (l : List CellId). All (λ (c : CellId). c.0 < length machine.lends) l) (sym site.cells) described.of_cells in
           subst (λ (n : ℕ). n < length table.terms.lends) (sym (cell-at cells node)) (subst (λ (n : ℕ). (get_or cells node (record { 0 = 0 })).0 < n) (sym count) (All-get_or (λ (c : CellId). c.0 < length machine.lends) cells node (record { 0 = 0 }) within all));
     }
+
+-- ---- the frames of boot
+
+after-append : (layout : Layout) (xs ys : List Claim) (left : Left) → after_claims layout (xs ++ ys) left ≡ after_claims layout ys (after_claims layout xs left)
+after-append layout [] ys left = refl
+after-append layout (x ∷ xs) ys left = after-append layout xs ys (after_claim layout x left)
+
+-- without caches the guests before it are all that came first
+left-is : (machine : Machine) (plan : Plan) (guest : ℕ) → machine.cache ≡ 0 → ((layout : Layout) (cells : ℕ) (left : Left) → after_claims layout (cache_claims 0 0 cells) left ≡ left)
+    → left_for (described_seen machine plan) guest ≡ left_behind machine guest
+left-is machine plan guest none empty =
+    let layout = layout_of machine.shape in
+    let pages = page_claims 0 (take guest (map need_of machine.guests)) in
+    let first = first_left layout machine.lends in
+    after-append layout (cache_claims machine.cache 0 (length machine.lends)) pages first
+    ∙ ap (λ (cache : ℕ). after_claims layout pages (after_claims layout (cache_claims cache 0 (length machine.lends)) first)) none
+    ∙ ap (after_claims layout pages) (empty layout (length machine.lends) first)
+
+found-at : (fs : List Frame) (k : ℕ) (x : Found) → slice_get (map found_of fs) k ≡ Some x → (f : Frame) × (slice_get fs k ≡ Some f) × (found_of f ≡ x)
+found-at [] k x e = absurd cc
+found-at (f ∷ fs) zero x e = (f, refl, (let same : Some (found_of f) ≡ Some x = e in cc))
+found-at (f ∷ fs) (suc k) x e = found-at fs k x e
+
+new-at : (P : Frame → Type 0) (fs : List Frame) (k : ℕ) (f : Frame) → All P fs → slice_get fs k ≡ Some f → P f
+new-at P [] k f all e = absurd cc
+new-at P (x ∷ fs) zero f all e = let same : x ≡ f = cc in subst P same (All-head P x fs all)
+new-at P (x ∷ fs) (suc k) f all e = new-at P fs k f (All-tail P x fs all) e
+
+pub lot-placed : (machine : Machine) (plan : Plan) (table : MadeTable) (guest : ℕ) (spec : GuestSpec) (lot : Lot) → machine.cache ≡ 0 → ((layout : Layout) (cells : ℕ) (left : Left) → after_claims layout (cache_claims 0 0 cells) left ≡ left)
+    → table.terms.first ≡ 0 → IsLotOf machine table guest spec lot → IsPlaced (described_seen machine plan) guest spec (map found_of lot.frames)
+lot-placed machine plan table guest spec lot none empty fresh is = record {
+  count = length-map lot.frames found_of ∙ is.taken.count;
+  each = λ k x at.
+      let was = found-at lot.frames k x at in
+      let layout = layout_of machine.shape in
+      let taker = (page_claim guest (need_of spec)).taker in
+      let new = (new-at (IsNew table.terms) lot.frames k was.0 is.taken.new was.1).first in (
+        ap (λ (l : Left). frame_at layout taker l k) (left-is machine plan guest none empty) ∙ is.taken.placed k was.0 was.1 ∙ ap (λ (f : Found). Some f.frame) was.2,
+        ap (λ (f : Found). f.generation) (sym was.2) ∙ new ∙ ap (λ (n : ℕ). n + 1) fresh,
+      );
+}
 
 -- ---- one lot after another
 

@@ -8,21 +8,21 @@ use Rattle.shootdown.specs.Notes.{Token, Seat}
 use Rattle.shootdown.specs.Making.{numbered, fresh_token}
 use Rattle.isolation_law.specs.GuestState.{GuestState}
 use Rattle.isolation_law.specs.Start.{Boot}
+use Rattle.isolation_law.specs.Surroundings.{cell_of_processor}
 use Rattle.machine_desc.specs.declared.plan.Item.{Item}
-use Rattle.machine_desc.specs.declared.plan.Item.TheVariants.{Run, Move, Fail}
 use Rattle.guest_core.specs.GuestView.{Monitored, Shared}
 use Rattle.guest_core.specs.Records.{IsRecord}
 use Rattle.guest_core.specs.declared.records.GuestRecord.{GuestRecord}
-use Rattle.guest_core.specs.declared.records.SliceRecord.{SliceRecord}
 use Rattle.guest_lock.specs.Fits.{Fits}
 use Rattle.guest_lock.specs.Guests.{GuestsFrom}
-use Rattle.run_workers.specs.Planned.{Planned, planned}
+use Rattle.plan_due.specs.Planned.{Planned, planned}
 use Rattle.run_workers.specs.WholeRecord.{AreRecords}
-use Rattle.run_workers.specs.Slices.{own, AreTold}
-use Rattle.run_workers.specs.Dealt.{queue_of}
-use Rattle.run_workers.specs.Working.{ItemFits, IsOn}
+use Rattle.plan_due.specs.Slices.{Machine, own, AreTold}
+use Rattle.plan_due.specs.Dealt.{queue_of}
+use Rattle.plan_due.specs.declared.outcome.Outcome.{Outcome}
+use Rattle.run_workers.specs.Working.{cell_in}
 use Rattle.run_workers.specs.Workers.{IsReady, Works}
-use Rattle.run_workers.specs.Parts.{token_of, slices_of}
+use Rattle.run_workers.specs.Parts.{token_of, outcomes_of}
 use Rattle.run_workers.specs.Booting.{start_of, IsFresh}
 use Rattle.run_workers.specs.Ending.{AreLeft, AllTold}
 use Rattle.std.proofs.lemmas.List.Elements.{All-nil, All-cons}
@@ -31,9 +31,7 @@ use Rattle.wire_queue.specs.PassLists.{IsListOf, AreAllOf}
 use Rattle.wire_queue.specs.PassTables.{guests_of}
 use Rattle.wire_queue.specs.declared.lists.PassList.{PassList}
 use Rattle.run_workers.specs.declared.workers.Worker.{Worker}
-use Rattle.run_workers.proofs.NoteLists.{Every}
 use Rattle.run_workers.proofs.WholeLemmas.{get-index, get-there}
-use Rattle.run_workers.proofs.DueLemmas.{IsPlace}
 
 -- ---- lists by their places
 
@@ -118,52 +116,38 @@ ready guests board tokens ws all processors are i d l =
       no_notes = ap (λ (t : Token). t.notes) at.1;
     })
 
-slices-made : (w : Worker) (queue : List SliceRecord) → Some queue ≡ slices_of w → (v : Vec SliceRecord Global) × (w.slices ≡ Some v) × (v.items ≡ queue)
-slices-made w queue e = by w.slices refl e
+outcomes-made : (w : Worker) (queue : List Outcome) → Some queue ≡ outcomes_of w → (v : Vec Outcome Global) × (w.outcomes ≡ Some v) × (v.items ≡ queue)
+outcomes-made w queue e = by w.outcomes refl e
   where
-    by : (o : Option (Vec SliceRecord Global)) → w.slices ≡ o → Some queue ≡ option_map (λ v. v.items) o → (v : Vec SliceRecord Global) × (w.slices ≡ Some v) × (v.items ≡ queue)
+    by : (o : Option (Vec Outcome Global)) → w.outcomes ≡ o → Some queue ≡ option_map (λ v. v.items) o → (v : Vec Outcome Global) × (w.outcomes ≡ Some v) × (v.items ≡ queue)
     by None is e = absurd cc
     by (Some v) is e = (v, is, some-same _ _ (sym e))
 
 -- what a processor's token was told of in the end
-pub record Done (board : TableId) (plan : List Planned) (queues : List (List SliceRecord)) (p : ℕ) (token : Token) : Type 0 where
+pub record Done (m : Machine) (board : TableId) (plan : List Planned) (queues : List (List Outcome)) (p : ℕ) (token : Token) : Type 0 where
   pub number_is : token.number ≡ p
   pub board_is : token.board ≡ board
-  pub told : AreTold (own p plan) (queue_of queues p) token.notes
+  pub told : AreTold m (own p plan) (queue_of queues p) token.notes
 
-pub done-at : (board : TableId) (items : List Item) (tokens : List Token) (was now : List Worker) (queues : List (List SliceRecord)) → tokens ≡ numbered (fresh_token board) 0 (length tokens) → map token_of was ≡ tokens → length now ≡ length was → ((i : ℕ) (d : Worker) → i < length was → Works items (slice_index_or was i d) (slice_index_or now i d)) → map Some queues ≡ map slices_of now → (p : ℕ) (t : Token) → slice_get (map token_of now) p ≡ Some t → Done board (planned 0 items) queues p t
-done-at board items tokens was now queues all are same each made p t e =
+pub done-at : (m : Machine) (board : TableId) (items : List Item) (tokens : List Token) (was now : List Worker) (queues : List (List Outcome)) → tokens ≡ numbered (fresh_token board) 0 (length tokens) → map token_of was ≡ tokens → length now ≡ length was → ((i : ℕ) (d : Worker) → i < length was → Works m items (slice_index_or was i d) (slice_index_or now i d)) → map Some queues ≡ map outcomes_of now → (p : ℕ) (t : Token) → slice_get (map token_of now) p ≡ Some t → Done m board (planned 0 items) queues p t
+done-at m board items tokens was now queues all are same each made p t e =
     let w = get-map token_of now p t e in
     let few = (get-index now p w.0 w.0 w.1).0 in
     let below : p < length was = omega arith in
     let old = get-there was p below in
     let at = fresh-token-at board tokens was p old.0 all are old.1 in
-    let works : Works items old.0 w.0 = subst (λ o. Works items o w.0) (get-index was p old.0 w.0 old.1).1 (subst (Works items (slice_index_or was p w.0)) (get-index now p w.0 w.0 w.1).1 (each p w.0 below)) in
-    let queue = get-map Some queues p (slices_of w.0) (ap (λ l. slice_get l p) made ∙ map-get slices_of now p w.0 w.1) in
-    let slices = slices-made w.0 queue.0 queue.2 in
+    let works : Works m items old.0 w.0 = subst (λ o. Works m items o w.0) (get-index was p old.0 w.0 old.1).1 (subst (Works m items (slice_index_or was p w.0)) (get-index now p w.0 w.0 w.1).1 (each p w.0 below)) in
+    let queue = get-map Some queues p (outcomes_of w.0) (ap (λ l. slice_get l p) made ∙ map-get outcomes_of now p w.0 w.1) in
+    let made-outcomes = outcomes-made w.0 queue.0 queue.2 in
     let number : w.0.token.number ≡ p = works.same.number ∙ ap (λ (s : Token). s.number) at.1 in
     let board_was : w.0.token.board ≡ board = works.same.board ∙ ap (λ (s : Token). s.board) at.1 in
-    let told = works.told slices.0 slices.1 in
-    let left : slices.0.items ≡ queue_of queues p = slices.2 ∙ sym (get-index queues p queue.0 [] queue.1).1 in
-    subst (Done board (planned 0 items) queues p) w.2 (record {
+    let told = works.told made-outcomes.0 made-outcomes.1 in
+    let left : made-outcomes.0.items ≡ queue_of queues p = made-outcomes.2 ∙ sym (get-index queues p queue.0 [] queue.1).1 in
+    subst (Done m board (planned 0 items) queues p) w.2 (record {
       number_is = number;
       board_is = board_was;
-      told = subst (λ n. AreTold (own n (planned 0 items)) (queue_of queues p) w.0.token.notes) number (subst (λ q. AreTold (own w.0.token.number (planned 0 items)) q w.0.token.notes) left told);
+      told = subst (λ n. AreTold m (own n (planned 0 items)) (queue_of queues p) w.0.token.notes) number (subst (λ q. AreTold m (own w.0.token.number (planned 0 items)) q w.0.token.notes) left told);
     })
-
--- ---- items
-
-pub all-places : (starts : List Boot) (count : ℕ) (states : List GuestState) (k : ℕ) (items : List Item) → length states ≡ length starts → All (ItemFits starts) items → All (IsOn count) items → Every (IsPlace count states) (planned k items)
-all-places starts count states k [] same places on = tt
-all-places starts count states k (Run p g v steps ∷ items) same places on =
-    let place : ItemFits starts (Run p g v steps) = places 0 (Run p g v steps) (omega arith) in
-    let few = (get-index starts g.0 place.start place.start place.named).0 in
-    let there = get-there states g.0 (let l : g.0 < length states = omega arith in l) in (
-      record { on = on 0 (Run p g v steps) (omega arith); state = there.0; of = there.1 },
-      all-places starts count states (suc k) items same (λ i d l. places (suc i) d (omega arith)) (λ i d l. on (suc i) d (omega arith)),
-    )
-all-places starts count states k (Move p g page kind node ∷ items) same places on = all-places starts count states (suc k) items same (λ i d l. places (suc i) d (omega arith)) (λ i d l. on (suc i) d (omega arith))
-all-places starts count states k (Fail p cell ∷ items) same places on = all-places starts count states (suc k) items same (λ i d l. places (suc i) d (omega arith)) (λ i d l. on (suc i) d (omega arith))
 
 -- ---- what is left
 
@@ -182,8 +166,8 @@ seat-boards starts board k (s ∷ states) (r ∷ lefts) [] are i d l = absurd ar
 seat-boards starts board k (s ∷ states) (r ∷ lefts) (t ∷ seats) are zero d l = are.0.2.board_is
 seat-boards starts board k (s ∷ states) (r ∷ lefts) (t ∷ seats) are (suc i) d l = seat-boards starts board (k + 1) states lefts seats are.1 i d (omega arith)
 
-pub token-boards : (board : TableId) (plan : List Planned) (queues : List (List SliceRecord)) (tokens : List Token) → ((p : ℕ) (t : Token) → slice_get tokens p ≡ Some t → Done board plan queues p t) → All (λ (t : Token). t.board ≡ board) tokens
-token-boards board plan queues tokens done i d l =
+pub token-boards : (m : Machine) (board : TableId) (plan : List Planned) (queues : List (List Outcome)) (tokens : List Token) → ((p : ℕ) (t : Token) → slice_get tokens p ≡ Some t → Done m board plan queues p t) → All (λ (t : Token). t.board ≡ board) tokens
+token-boards m board plan queues tokens done i d l =
     let there = get-there tokens i l in
     ap (λ (t : Token). t.board) (get-index tokens i there.0 d there.1).1 ∙ (done i there.0 there.1).board_is
 
@@ -208,6 +192,10 @@ records-from pre (b ∷ boots) board k (s ∷ states) (r ∷ lefts) (t ∷ seats
 
 pub all-records : (boots : List Boot) (board : TableId) (states : List GuestState) (lefts : List GuestRecord) (seats : List Seat) → AreLeft boots board 0 states lefts seats → length lefts ≡ length boots → AreRecords boots states lefts
 all-records boots board states lefts seats are same = records-from [] boots board 0 states lefts seats refl are same
+
+-- each guest is told the same of the processors
+pub starts-cells : (guests : List Monitored) → ((g : ℕ) (guest : Monitored) → slice_get guests g ≡ Some guest → (p : ℕ) → cell_of_processor guest.start.around p ≡ cell_in (map start_of guests) p) → (g : ℕ) (b : Boot) → slice_get (map start_of guests) g ≡ Some b → (p : ℕ) → cell_of_processor b.around p ≡ cell_in (map start_of guests) p
+starts-cells guests cells g b at p = let x = get-map start_of guests g b at in ap (λ (y : Boot). cell_of_processor y.around p) (sym x.2) ∙ cells g x.0 x.1 p
 
 -- ---- the ends of the wires
 

@@ -11,11 +11,12 @@ use Rattle.guest_core.specs.Noting.{loaded_by}
 use Rattle.guest_core.specs.GuestCalls.{processor_of}
 use Rattle.guest_core.specs.declared.records.Cut.{Cut}
 use Rattle.guest_lock.specs.declared.burst.Burst.{Burst}
+use Rattle.guest_lock.specs.declared.burst.Stop.{Stop}
 use Rattle.guest_lock.specs.declared.burst.Stop.TheVariants as stop
 use Rattle.guest_lock.specs.Told.{with_told, shown, vcpu_shown, told_of_stop, AreSteps, Bursts}
-use Rattle.run_workers.specs.declared.serving.Job.{Job}
-use Rattle.run_workers.specs.Jobs.{planned_job}
-use Rattle.run_workers.specs.Slices.{IsCause, framed, Serves}
+use Rattle.plan_due.specs.Slices.{IsCause, framed}
+use Rattle.plan_due.specs.Stops.{told_of_stop as told_at_end}
+use Rattle.run_workers.specs.Working.{as_told, Serves}
 
 -- the laws of guest_lock
 abbrev pub Grows : Type 0
@@ -27,13 +28,18 @@ Shows = (token : Token) (g : ℕ) (told : List Note) → shown g (with_told toke
 pub loaded-shown : Shows → (old new : Token) (g : ℕ) (p : ProcId) (v : VcpuId) → new ≡ with_told old g (Made (Load p v) ∷ []) → shown g new ≡ Some v.0
 loaded-shown shows old new g p v e = ap (shown g) e ∙ shows old g (Made (Load p v) ∷ [])
 
-pub served-done : Grows → Shows → (g : ℕ) (job : Job) (old loaded turned new : Token) (burst : Burst) (cut : Cut) → job.guest.0 ≡ g →
-    loaded ≡ with_told old g (Made (Load (processor_of old) job.vcpu) ∷ []) → Bursts loaded g burst turned →
-    new ≡ with_told turned g (Made (Unload (processor_of turned)) ∷ []) → IsCause job.steps burst.steps burst.stop cut →
-    Serves (planned_job old.number job) old (record { item = job.item; steps = burst.steps; cause = cut }) new
-served-done grows shows g job old loaded turned new burst cut guest load bursts unload cause =
+same-told : (v : VcpuId) (s : Stop) → told_of_stop v s ≡ told_at_end v (as_told s)
+same-told v stop.Paused = refl
+same-told v stop.VcpuHalted = refl
+same-told v (stop.GuestEnded end) = refl
+same-told v stop.Memory = refl
+
+pub served-done : Grows → Shows → (g : ℕ) (cell item planned : ℕ) (v : VcpuId) (old loaded turned new : Token) (burst : Burst) (cut : Cut) →
+    loaded ≡ with_told old g (Made (Load (processor_of old) v) ∷ []) → Bursts loaded g burst turned →
+    new ≡ with_told turned g (Made (Unload (processor_of turned)) ∷ []) → IsCause cell planned burst.steps (as_told burst.stop) cut →
+    Serves cell item v planned old g (record { item = item; steps = burst.steps; cause = cut }) new
+served-done grows shows g cell item planned v old loaded turned new burst cut load bursts unload cause =
     let p = processor_of old in
-    let v = job.vcpu in
     let processor : processor_of loaded ≡ p = ap processor_of load in
     let vcpu : vcpu_shown g loaded ≡ v = ap (λ s. record { 0 = unwrap_or s 0 }) (loaded-shown shows old loaded g p v load) in
     let body = bursts.made ++ told_of_stop v burst.stop in
@@ -47,18 +53,18 @@ served-done grows shows g job old loaded turned new burst cut guest load bursts 
         number = refl;
         loaded = true;
         made = bursts.made;
-        by = burst.stop;
+        by = as_told burst.stop;
         steps = subst (λ u. AreSteps p u burst.steps bursts.made) vcpu (subst (λ q. AreSteps q (vcpu_shown g loaded) burst.steps bursts.made) processor bursts.steps);
-        notes = refl;
+        notes = ap (λ (l : List Note). framed true p v (bursts.made ++ l)) (same-told v burst.stop);
         cause = cause;
       };
-      token = token ∙ ap (λ k. with_told old k told) (sym guest);
+      token = token;
     }
 
-pub served-ended : (g : ℕ) (job : Job) (old new : Token) (burst : Burst) (end : End) (cut : Cut) → job.guest.0 ≡ g →
-    burst ≡ record { turns = 0; steps = 0; stop = stop.GuestEnded end } → new ≡ with_told old g (Ended end ∷ []) → IsCause job.steps burst.steps burst.stop cut →
-    Serves (planned_job old.number job) old (record { item = job.item; steps = burst.steps; cause = cut }) new
-served-ended g job old new burst end cut guest none token cause =
+pub served-ended : (g : ℕ) (cell item planned : ℕ) (v : VcpuId) (old new : Token) (burst : Burst) (end : End) (cut : Cut) →
+    burst ≡ record { turns = 0; steps = 0; stop = stop.GuestEnded end } → new ≡ with_told old g (Ended end ∷ []) → IsCause cell planned burst.steps (as_told burst.stop) cut →
+    Serves cell item v planned old g (record { item = item; steps = burst.steps; cause = cut }) new
+served-ended g cell item planned v old new burst end cut none token cause =
     let steps : burst.steps ≡ 0 = ap (λ (b : Burst). b.steps) none in
     record {
       told = Ended end ∷ [];
@@ -66,10 +72,10 @@ served-ended g job old new burst end cut guest none token cause =
         number = refl;
         loaded = false;
         made = [];
-        by = burst.stop;
-        steps = subst (λ n. AreSteps (processor_of old) job.vcpu n []) (sym steps) tt;
-        notes = ap (λ (b : Burst). told_of_stop job.vcpu b.stop) (sym none);
+        by = as_told burst.stop;
+        steps = subst (λ n. AreSteps (processor_of old) v n []) (sym steps) tt;
+        notes = ap (λ (b : Burst). told_at_end v (as_told b.stop)) (sym none);
         cause = cause;
       };
-      token = token ∙ ap (λ k. with_told old k (Ended end ∷ [])) (sym guest);
+      token = token;
     }

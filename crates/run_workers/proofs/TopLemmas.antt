@@ -1,5 +1,5 @@
 -- From a description to the run of its guests.
-use Rattle.std.proofs.Common.{◌≡◌, ℕ, zero, suc, ◌+◌, ◌<◌, List, [], ◌∷◌, map, length, refl, sym, ap, ◌∙◌, subst, arith, Option, Some, None, Result, Ok, Err, IfOk}
+use Rattle.std.proofs.Common.{◌≡◌, ℕ, zero, suc, ◌+◌, ◌<◌, List, [], ◌∷◌, map, length, refl, sym, ap, ◌∙◌, subst, arith, true, Option, Some, None, Result, Ok, Err, IfOk}
 use Rattle.std.specs.Prelude.{slice_get, slice_index_or}
 use Rattle.std.specs.Option.{IsSomeAnd}
 use Rattle.std.specs.declared.alloc.AllocError.{AllocError}
@@ -11,6 +11,7 @@ use Rattle.frame_words.specs.Holders.{Holding}
 use Rattle.shootdown.specs.Notes.{Token}
 use Rattle.shootdown.specs.Making.{numbered, fresh_token}
 use Rattle.isolation_law.specs.Start.{Boot}
+use Rattle.isolation_law.specs.Surroundings.{Surroundings, cell_of_processor}
 use Rattle.machine_desc.specs.declared.machine.GuestSpec.{GuestSpec}
 use Rattle.machine_desc.specs.declared.plan.Item.{Item}
 use Rattle.machine_desc.specs.declared.plan.Item.TheVariants.{Run, Move, Fail}
@@ -22,9 +23,9 @@ use Rattle.wire_queue.specs.Closing.{AreInOrder}
 use Rattle.wire_queue.specs.declared.lists.PassList.{PassList}
 use Rattle.guest_core.specs.GuestView.{Monitored, Shared}
 use Rattle.guest_core.specs.declared.records.RunRecord.{RunRecord}
-use Rattle.run_workers.specs.Starting.{IsStart, AreStarts}
+use Rattle.run_workers.specs.Starting.{is_run, IsBuilt, around_of, IsStart, AreStarts}
 use Rattle.run_workers.specs.WholeRecord.{IsWhole}
-use Rattle.run_workers.specs.Working.{ItemFits, IsOn}
+use Rattle.run_workers.specs.Working.{cell_in, ItemFits, IsOn}
 use Rattle.run_workers.specs.Booting.{start_of, IsFresh, IsStarted, AreBooted, HasBooted}
 use Rattle.run_workers.specs.Named.{board_of_tokens, MayRun, IsRunOf}
 use Rattle.run_workers.proofs.WholeLemmas.{get-index, get-there}
@@ -49,8 +50,8 @@ started-at d sources board shared guests g guest are at =
     let source = get-there sources g (omega arith) in
     (source.0, source.1, are.each g guest source.0 at source.1)
 
-item-fits : (d : Described) (sources : List Source) (board : TableId) (shared : Shared) (guests : List Monitored) (item : Item) → length guests ≡ length d.guests → AreBooted d sources board shared guests → IsItem d item → ItemFits (map start_of guests) item
-item-fits d sources board shared guests (Run p g v steps) count are is = by (slice_get d.guests g.0) refl is.of
+item-fits : (d : Described) (sources : List Source) (board : TableId) (shared : Shared) (guests : List Monitored) (item : Item) → length guests ≡ length d.guests → AreBooted d sources board shared guests → IsItem d item → is_run item ≡ true → ItemFits (map start_of guests) item
+item-fits d sources board shared guests (Run p g v steps) count are is runs = by (slice_get d.guests g.0) refl is.of
   where
     by : (o : Option GuestSpec) → slice_get d.guests g.0 ≡ o → IsSomeAnd o (λ spec. v.0 < spec.vcpus) → ItemFits (map start_of guests) (Run p g v steps)
     by None e of = absurd of
@@ -61,16 +62,27 @@ item-fits d sources board shared guests (Run p g v steps) count are is = by (sli
         let same = same-some started.2.spec spec (sym started.2.spec_is ∙ e) in
         let vcpus : guest.0.start.vcpus ≡ spec.vcpus = started.2.start.vcpus ∙ ap (λ (s : GuestSpec). s.vcpus) same in
         record { start = guest.0.start; named = map-get start_of guests g.0 guest.0 guest.1; vcpu = subst (λ n. v.0 < n) (sym vcpus) of }
-item-fits d sources board shared guests (Move p g page kind node) count are is = tt
-item-fits d sources board shared guests (Fail p cell) count are is = tt
+item-fits d sources board shared guests (Move p g page kind node) count are is runs = absurd cc
+item-fits d sources board shared guests (Fail p cell) count are is runs = absurd cc
 
 item-on : (d : Described) (count : ℕ) (item : Item) → count ≡ length d.processors → IsItem d item → IsOn count item
 item-on d count (Run p g v steps) same is = subst (λ n. p.0 < n) (sym same) is.on
-item-on d count (Move p g page kind node) same is = tt
-item-on d count (Fail p cell) same is = tt
+item-on d count (Move p g page kind node) same is = subst (λ n. p.0 < n) (sym same) is.on
+item-on d count (Fail p cell) same is = subst (λ n. p.0 < n) (sym same) is.on
 
-pub may-run : (d : Described) (sources : List Source) (guests : List Monitored) (tokens : List Token) (shared : Shared) (holder : Holding) → IsAccepted d → length sources ≡ length d.guests → HasBooted d sources guests tokens shared holder → MayRun guests tokens shared d.items
-may-run d sources guests tokens shared holder accepted many booted =
+-- each guest is told the same of the processors
+cells-at : (d : Described) (sources : List Source) (board : TableId) (shared : Shared) (guests : List Monitored) (all : List Monitored) → AreBooted d sources board shared guests → (g : ℕ) (guest : Monitored) → slice_get all g ≡ Some guest → (p : ℕ)
+    → ((i : ℕ) (x : Monitored) → slice_get all i ≡ Some x → slice_get guests i ≡ Some x) → cell_of_processor guest.start.around p ≡ cell_in (map start_of all) p
+cells-at d sources board shared guests [] are g guest at p within = absurd cc
+cells-at d sources board shared guests (x ∷ all) are g guest at p within =
+    let here = (started-at d sources board shared guests g guest are (within g guest at)).2 in
+    let first = (started-at d sources board shared guests 0 x are (within 0 x refl)).2 in
+    let one : cell_of_processor guest.start.around p ≡ cell_of_processor (around_of d g here.spec) p = ap (λ (w : Surroundings). cell_of_processor w p) here.start.around in
+    let other : cell_of_processor x.start.around p ≡ cell_of_processor (around_of d 0 first.spec) p = ap (λ (w : Surroundings). cell_of_processor w p) first.start.around in
+    one ∙ sym other
+
+pub may-run : (d : Described) (sources : List Source) (guests : List Monitored) (tokens : List Token) (shared : Shared) (holder : Holding) → IsAccepted d → IsBuilt d → length sources ≡ length d.guests → HasBooted d sources guests tokens shared holder → MayRun guests tokens shared d.items
+may-run d sources guests tokens shared holder accepted built many booted =
     let board = booted.board in
     let are = booted.guests_are in
     let count = are.count in
@@ -88,8 +100,9 @@ may-run d sources guests tokens shared holder accepted many booted =
       wires = booted.wires;
       tokens_are = booted.tokens_are ∙ (λ k. numbered (fresh_token (sym board-is k)) 0 (sym length-is k));
       processors = λ g guest at. (let started = (started-at d sources board shared guests g guest are at).2 in ap (λ w. length w.processors) started.start.around ∙ length-map d.processors (λ n. n.0) ∙ sym length-is);
+      cells = λ g guest at p. cells-at d sources board shared guests guests are g guest at p (λ i x e. e);
       few_items = omega arith;
-      places = λ i e l. item-fits d sources board shared guests (slice_index_or d.items i e) all are (accepted.items i e l);
+      places = λ i e l. item-fits d sources board shared guests (slice_index_or d.items i e) all are (accepted.items i e l) (built.runs i e l);
       on = λ i e l. item-on d (length tokens) (slice_index_or d.items i e) length-is (accepted.items i e l);
     }
 

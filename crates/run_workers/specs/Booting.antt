@@ -1,13 +1,14 @@
 -- The guests of a description, booted.
-use Rattle.std.specs.Prelude.{◌≡◌, ℕ, List, [], ◌∷◌, length, map, All, None, Some, slice_get, slice_index}
+use Rattle.std.specs.Prelude.{◌≡◌, ℕ, List, [], ◌∷◌, length, map, take, All, None, Some, slice_get, slice_index}
 use Rattle.atomic_table.specs.Seated.{TableId}
 use Rattle.base_words.specs.declared.input.InputEntry.{InputEntry}
 use Rattle.frame_words.specs.Holders.{MadeTable, Holding, IsMade}
 use Rattle.run_workers.specs.declared.source.Source.{Source}
 use Rattle.isolation_law.specs.Start.{Boot}
-use Rattle.node_frames.specs.Layout.{Layout}
-use Rattle.node_frames.specs.Left.{Left}
-use Rattle.boot_frames.specs.Claims.{page_claim}
+use Rattle.node_frames.specs.Layout.{layout_of}
+use Rattle.node_frames.specs.Left.{Left, first_left}
+use Rattle.boot_frames.specs.Chain.{after_claims}
+use Rattle.boot_frames.specs.Claims.{page_claim, page_claims}
 use Rattle.boot_frames.specs.Lots.{Serves}
 use Rattle.boot_frames.specs.declared.lots.Lot.{Lot}
 use Rattle.shootdown.specs.Notes.{Token, Seat}
@@ -36,9 +37,13 @@ pub record IsSite (machine : Machine) (site : Site) : Type 0 where
   pub homes : map (λ c. c.0) site.homes ≡ map (home_in machine) machine.guests
   pub policy : site.policy ≡ machine.policy
 
+-- what the guests before this one leave, where nothing was taken before them
+abbrev pub left_behind : Machine → ℕ → Left
+left_behind machine guest = after_claims (layout_of machine.shape) (page_claims 0 (take guest (map need_of machine.guests))) (first_left (layout_of machine.shape) machine.lends)
+
 -- the frames and the holder of a guest, of what the guests before it left
-abbrev pub IsLotOf : MadeTable → Layout → GuestSpec → Lot → Type 0
-IsLotOf table layout spec lot = (left : Left) × (guest : ℕ) × Serves table layout left (page_claim guest (need_of spec)) lot
+abbrev pub IsLotOf : Machine → MadeTable → ℕ → GuestSpec → Lot → Type 0
+IsLotOf machine table guest spec lot = Serves table (layout_of machine.shape) (left_behind machine guest) (page_claim guest (need_of spec)) lot
 
 -- a guest of this number that goes on, with a seat of this board, which shares this
 pub record IsFresh (board : TableId) (shared : Shared) (number : ℕ) (guest : Monitored) : Type 0 where

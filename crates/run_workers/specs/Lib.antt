@@ -1,11 +1,6 @@
 pub mod Starting
-pub mod Planned
-pub mod PlanDue
 pub mod WholeRecord
-pub mod Slices
 pub mod Working
-pub mod Jobs
-pub mod Dealt
 pub mod Draining
 pub mod Ending
 pub mod Workers

@@ -5,15 +5,14 @@ use Rattle.shootdown.specs.Notes.{Token}
 use Rattle.shootdown.specs.Making.{numbered, fresh_token}
 use Rattle.isolation_law.specs.GuestState.{GuestState}
 use Rattle.isolation_law.specs.Start.{Boot}
+use Rattle.isolation_law.specs.Surroundings.{cell_of_processor}
 use Rattle.machine_desc.specs.declared.plan.Item.{Item}
 use Rattle.guest_core.specs.GuestView.{Monitored, Shared}
 use Rattle.guest_core.specs.declared.records.RunRecord.{RunRecord}
 use Rattle.wire_queue.specs.Between.{Made, guest_count}
 use Rattle.wire_queue.specs.declared.lists.PassList.{PassList}
-use Rattle.run_workers.specs.Planned.{planned}
-use Rattle.run_workers.specs.PlanDue.{IsDue}
-use Rattle.run_workers.specs.WholeRecord.{AreRecords}
-use Rattle.run_workers.specs.Working.{ItemFits, IsOn}
+use Rattle.run_workers.specs.WholeRecord.{AreRecords, AllDue}
+use Rattle.run_workers.specs.Working.{cell_in, ItemFits, IsOn}
 use Rattle.run_workers.specs.Booting.{no_board, start_of, IsFresh}
 use Rattle.run_workers.specs.Ending.{AllTold, EndDrained}
 
@@ -32,6 +31,7 @@ pub record MayRun (guests : List Monitored) (tokens : List Token) (shared : Shar
   pub numbers : (g : ℕ) (guest : Monitored) → slice_get guests g ≡ Some guest → guest.start.around.guest ≡ g
   pub wires : guest_count shared.wires ≡ length guests
   pub processors : (g : ℕ) (guest : Monitored) → slice_get guests g ≡ Some guest → length guest.start.around.processors ≡ length tokens
+  pub cells : (g : ℕ) (guest : Monitored) → slice_get guests g ≡ Some guest → (p : ℕ) → cell_of_processor guest.start.around p ≡ cell_in (map start_of guests) p
   pub few_items : length items < 2 ^ 32
   pub places : All (ItemFits (map start_of guests)) items
   pub on : All (IsOn (length tokens)) items
@@ -41,6 +41,6 @@ pub record MayRun (guests : List Monitored) (tokens : List Token) (shared : Shar
 pub record IsRunOf (boots : List Boot) (items : List Item) (wires : Made) (out : RunRecord) (lists : List PassList) : Type 0 where
   pub states : List GuestState
   pub guests : AreRecords boots states out.guests
-  pub due : IsDue (planned 0 items) states out.guests out.slices
+  pub due : AllDue boots items states out
   pub told : AllTold boots wires 0 states out.guests lists
   pub drained : EndDrained states lists

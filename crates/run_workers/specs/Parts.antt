@@ -4,21 +4,21 @@ use Rattle.std.specs.Vec.Iter.{into_iter_items}
 use Rattle.std.specs.declared.alloc.Global.{Global}
 use Rattle.std.specs.declared.vec.IntoIter.{IntoIter}
 use Rattle.shootdown.specs.Notes.{Token}
-use Rattle.guest_core.specs.declared.records.SliceRecord.{SliceRecord}
+use Rattle.plan_due.specs.declared.outcome.Outcome.{Outcome}
 use Rattle.run_workers.specs.declared.workers.Worker.{Worker}
 
 abbrev pub token_of : Worker → Token
 token_of worker = worker.token
 
--- the slices of a worker, unless memory was wanting
-abbrev pub slices_of : Worker → Option (List SliceRecord)
-slices_of worker = option_map (λ v. v.items) worker.slices
+-- the outcomes of a worker, unless memory was wanting
+abbrev pub outcomes_of : Worker → Option (List Outcome)
+outcomes_of worker = option_map (λ v. v.items) worker.outcomes
 
--- what is left of each processor's slices
-abbrev pub slices_in : List (IntoIter SliceRecord Global) → List (List SliceRecord)
-slices_in queues = map into_iter_items queues
+-- what is left of each processor's outcomes
+abbrev pub outcomes_in : List (IntoIter Outcome Global) → List (List Outcome)
+outcomes_in queues = map into_iter_items queues
 
--- at most one slice, as a list
-abbrev pub as_list : Option SliceRecord → List SliceRecord
+-- at most one outcome, as a list
+abbrev pub as_list : Option Outcome → List Outcome
 as_list None = []
-as_list (Some slice) = slice ∷ []
+as_list (Some outcome) = outcome ∷ []

@@ -1,14 +1,14 @@
 -- What the guests of a description are started from.
-use Rattle.std.specs.Prelude.{◌≡◌, ◌<◌, ℕ, suc, List, [], ◌∷◌, length, map, All, Bool, true, false, None, slice_index, slice_index_or}
+use Rattle.std.specs.Prelude.{◌≡◌, ◌<◌, ℕ, suc, List, [], ◌∷◌, ◌++◌, length, map, take, All, Bool, true, false, None, Some, slice_get, slice_index, slice_index_or}
 use Rattle.base_words.specs.declared.input.InputEntry.{InputEntry}
 use Rattle.node_frames.specs.Layout.{Layout}
-use Rattle.node_frames.specs.Left.{first_left}
-use Rattle.boot_frames.specs.Chain.{first_short}
-use Rattle.boot_frames.specs.Claims.{claims_of}
+use Rattle.node_frames.specs.Left.{Left, first_left}
+use Rattle.boot_frames.specs.Chain.{first_short, after_claims, frame_at}
+use Rattle.boot_frames.specs.Claims.{cache_claims, page_claim, page_claims, claims_of}
 use Rattle.boot_frames.specs.Needs.{need_of}
 use Rattle.run_workers.specs.declared.source.Source.{Source}
 use Rattle.isolation_law.specs.Surroundings.{Surroundings}
-use Rattle.isolation_law.specs.Start.{Boot}
+use Rattle.isolation_law.specs.Start.{Boot, Found}
 use Rattle.machine_desc.specs.declared.machine.GuestSpec.{GuestSpec}
 use Rattle.machine_desc.specs.declared.plan.Item.{Item}
 use Rattle.machine_desc.specs.declared.plan.Item.TheVariants.{Run, Move, Fail}
@@ -44,14 +44,28 @@ around_of d guest spec = record {
   policy = d.policy;
 }
 
--- a guest starts from its image and its disk and with its input, on frames of which each page has one
+-- how the machine's frames lie
+abbrev pub layout_in : Described → Layout
+layout_in d = record { nodes = d.nodes; frames = d.frames; cells = d.cells }
+
+-- what the machine has left for a guest, once the caches and the guests before it have their frames
+abbrev pub left_for : Described → ℕ → Left
+left_for d guest = after_claims (layout_in d) (cache_claims d.cache 0 (length d.lends) ++ page_claims 0 (take guest (map need_of d.guests))) (first_left (layout_in d) d.lends)
+
+-- page k has the k-th frame that boot gives to the guest, taken for the first time
+pub record IsPlaced (d : Described) (guest : ℕ) (spec : GuestSpec) (frames : List Found) : Type 0 where
+  pub count : length frames ≡ spec.pages
+  pub each : (k : ℕ) (f : Found) → slice_get frames k ≡ Some f
+      → (frame_at (layout_in d) (page_claim guest (need_of spec)).taker (left_for d guest) k ≡ Some f.frame) × (f.generation ≡ 1)
+
+-- a guest starts from its image and its disk and with its input, on the frames of boot
 pub record IsStart (d : Described) (guest : ℕ) (spec : GuestSpec) (source : Source) (input : List InputEntry) (b : Boot) : Type 0 where
   pub around : b.around ≡ around_of d guest spec
   pub image_is : b.image ≡ image_of source.image
   pub vcpus : b.vcpus ≡ spec.vcpus
   pub disk_is : b.disk ≡ given_blocks source.disk
   pub input_is : b.input ≡ input
-  pub backed : length b.frames ≡ length source.image.pages
+  pub placed : IsPlaced d guest spec b.frames
 
 -- so do all, from a number on
 abbrev pub AreStarts : Described → ℕ → List GuestSpec → List Source → List (List InputEntry) → List Boot → Type 0

@@ -4,10 +4,10 @@ use Rattle.std.specs.declared.alloc.Global.{Global}
 use Rattle.atomic_table.specs.Seated.{TableId}
 use Rattle.isolation_law.specs.Start.{Boot}
 use Rattle.machine_desc.specs.declared.plan.Item.{Item}
-use Rattle.guest_core.specs.declared.records.SliceRecord.{SliceRecord}
 use Rattle.guest_lock.specs.Fits.{Fits}
-use Rattle.run_workers.specs.Planned.{planned}
-use Rattle.run_workers.specs.Slices.{own, AreTold}
+use Rattle.plan_due.specs.Planned.{planned}
+use Rattle.plan_due.specs.Slices.{Machine, own, AreTold}
+use Rattle.plan_due.specs.declared.outcome.Outcome.{Outcome}
 use Rattle.run_workers.specs.Working.{IsSameToken, ItemFits}
 use Rattle.run_workers.specs.declared.workers.Worker.{Worker}
 
@@ -22,7 +22,7 @@ pub record IsReady (starts : List Boot) (board : TableId) (worker : Worker) : Ty
   pub fits : Fits starts board worker.token
   pub no_notes : worker.token.notes ≡ []
 
--- what a worker's token was told of is the worker's slices
-pub record Works (items : List Item) (old new : Worker) : Type 0 where
+-- what a worker's token was told of is what came of its items
+pub record Works (m : Machine) (items : List Item) (old new : Worker) : Type 0 where
   pub same : IsSameToken old.token new.token
-  pub told : (slices : Vec SliceRecord Global) → new.slices ≡ Some slices → AreTold (own new.token.number (planned 0 items)) slices.items new.token.notes
+  pub told : (outcomes : Vec Outcome Global) → new.outcomes ≡ Some outcomes → AreTold m (own new.token.number (planned 0 items)) outcomes.items new.token.notes

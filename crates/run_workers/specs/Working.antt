@@ -1,12 +1,31 @@
 -- What a worker needs, and what it has done.
-use Rattle.std.specs.Prelude.{◌≡◌, ℕ, ◌<◌, ◌==◌, List, Bool, true, false, Option, Some, None, slice_get}
+use Rattle.std.specs.Prelude.{◌≡◌, ℕ, ◌<◌, ◌==◌, ◌++◌, List, [], ◌∷◌, length, Bool, true, false, Option, Some, None, slice_get}
+use Rattle.base_words.specs.declared.ids.VcpuId.{VcpuId}
+use Rattle.shootdown.specs.declared.notes.Note.{Note}
+use Rattle.shootdown.specs.declared.view.SidedNote.{SidedNote}
 use Rattle.shootdown.specs.Notes.{Token}
 use Rattle.isolation_law.specs.Start.{Boot}
+use Rattle.isolation_law.specs.Surroundings.{cell_of_processor}
 use Rattle.machine_desc.specs.declared.plan.Item.{Item}
 use Rattle.machine_desc.specs.declared.plan.Item.TheVariants.{Run, Move, Fail}
+use Rattle.guest_core.specs.GuestCalls.{processor_of}
 use Rattle.guest_core.specs.declared.records.SliceRecord.{SliceRecord}
-use Rattle.run_workers.specs.Planned.{Planned}
-use Rattle.run_workers.specs.Slices.{Serves}
+use Rattle.guest_lock.specs.declared.burst.Stop.{Stop as BurstStop}
+use Rattle.guest_lock.specs.declared.burst.Stop.TheVariants as burst
+use Rattle.guest_lock.specs.Told.{with_told}
+use Rattle.plan_due.specs.Planned.{Planned, planned_as}
+use Rattle.plan_due.specs.Slices.{Machine, IsSlice, IsTold}
+use Rattle.plan_due.specs.Stops.{Stop}
+use Rattle.plan_due.specs.Stops as stop
+use Rattle.plan_due.specs.declared.outcome.Outcome.{Outcome}
+
+-- the machine of these guests: the cell of each processor, as the first of them is told, and how many they are
+abbrev pub cell_in : List Boot → ℕ → ℕ
+cell_in [] p = 0
+cell_in (b ∷ starts) p = cell_of_processor b.around p
+
+abbrev pub machine_of : List Boot → Machine
+machine_of starts = record { cell_at = cell_in starts; guests = length starts }
 
 -- the run has the guest of a run item, with its virtual processor
 pub record HasPlace (starts : List Boot) (g v : ℕ) : Type 0 where
@@ -14,35 +33,48 @@ pub record HasPlace (starts : List Boot) (g v : ℕ) : Type 0 where
   pub named : slice_get starts g ≡ Some start
   pub vcpu : v < start.vcpus
 
+-- so far an item is a run
 abbrev pub ItemFits : List Boot → Item → Type 0
 ItemFits starts (Run processor guest vcpu steps) = HasPlace starts guest.0 vcpu.0
-ItemFits starts (Move processor guest page kind node) = Unit {0}
-ItemFits starts (Fail processor cell) = Unit {0}
+ItemFits starts (Move processor guest page kind node) = ⊥
+ItemFits starts (Fail processor cell) = ⊥
 
 -- board and number stay
 pub record IsSameToken (old new : Token) : Type 0 where
   pub board : new.board ≡ old.board
   pub number : new.number ≡ old.number
 
--- whether an item is a run item of a processor
+-- how a burst came to its end, as far as it is told
+abbrev pub as_told : BurstStop → Stop
+as_told burst.Paused = stop.Paused
+as_told burst.VcpuHalted = stop.VcpuHalted
+as_told (burst.GuestEnded end) = stop.GuestEnded end
+as_told burst.Memory = stop.Paused
+
+-- a token that is told of a slice of a guest
+pub record Serves (cell item : ℕ) (v : VcpuId) (planned : ℕ) (old : Token) (g : ℕ) (slice : SliceRecord) (new : Token) : Type 0 where
+  pub told : List Note
+  pub is : IsSlice cell item (processor_of old) v planned slice told
+  pub token : new ≡ with_told old g told
+
+-- whether an item is one of a processor
 abbrev pub is_own : ℕ → Item → Bool
 is_own p (Run processor guest vcpu steps) = processor.0 == p
-is_own p (Move processor guest page kind node) = false
-is_own p (Fail processor cell) = false
+is_own p (Move processor guest page kind node) = processor.0 == p
+is_own p (Fail processor cell) = processor.0 == p
 
--- an item at its place in the plan
-abbrev pub planned_as : ℕ → Item → Planned
-planned_as number (Run p g v steps) = record { item = number; processor = p.0; guest = g.0; vcpu = v.0; steps = steps }
-planned_as number (Move p g page kind node) = record { item = number; processor = p.0; guest = g.0; vcpu = 0; steps = 0 }
-planned_as number (Fail p cell) = record { item = number; processor = p.0; guest = 0; vcpu = 0; steps = 0 }
+-- an item of the token's processor is carried out, and no other one
+pub record Carries (m : Machine) (item : Planned) (old : Token) (outcome : Outcome) (new : Token) : Type 0 where
+  pub told : List SidedNote
+  pub is : IsTold m item outcome told
+  pub token : new ≡ record old { notes = old.notes ++ told }
 
--- a run item of the token's processor is carried out, and no other one
-abbrev pub CarriesOne : ℕ → Item → Token → Option SliceRecord → Token → Type 0
-CarriesOne number item old None new = (is_own old.number item ≡ false) × (new ≡ old)
-CarriesOne number item old (Some slice) new = (is_own old.number item ≡ true) × Serves (planned_as number item) old slice new
+abbrev pub CarriesOne : Machine → ℕ → Item → Token → Option Outcome → Token → Type 0
+CarriesOne m number item old None new = (is_own old.number item ≡ false) × (new ≡ old)
+CarriesOne m number item old (Some outcome) new = (is_own old.number item ≡ true) × Carries m (planned_as number item) old outcome new
 
--- a run item is of one of so many processors
+-- an item is of one of so many processors
 abbrev pub IsOn : ℕ → Item → Type 0
 IsOn processors (Run processor guest vcpu steps) = processor.0 < processors
-IsOn processors (Move processor guest page kind node) = Unit {0}
-IsOn processors (Fail processor cell) = Unit {0}
+IsOn processors (Move processor guest page kind node) = processor.0 < processors
+IsOn processors (Fail processor cell) = processor.0 < processors

@@ -147,7 +147,8 @@ fn boot_one(
     requires built { IsBuilt (described_seen machine.now plan.now) }
     requires there { number < length machine.now.guests }
     requires source { (spec : GuestSpec) → slice_get machine.now.guests number ≡ Some spec → IsSource spec source }
-    requires lot { (spec : GuestSpec) → slice_get machine.now.guests number ≡ Some spec → IsLotOf table.now (layout_of machine.now.shape) spec lot }
+    requires lot { (spec : GuestSpec) → slice_get machine.now.guests number ≡ Some spec → IsLotOf machine.now table.now number spec lot }
+    requires fresh { table.now.terms.first ≡ 0 }
     requires seat { IsSeat seat.board number seat }
     requires frames { table.now.terms.frames ≡ machine.now.shape.nodes * machine.now.shape.frames }
     requires lends { table.now.terms.lends ≡ machine.now.lends }
@@ -156,6 +157,7 @@ fn boot_one(
     ensures { IfOk result (IsStarted (described_seen machine.now plan.now) source seat.board (record { table = table.now; wires = wires.now }) number) }
 {
     a_lot_holds_its_frames();
+    an_empty_cache_takes_nothing();
     let _ = table;
     let spec = &machine.guests.as_slice()[number];
     let around = Around {
@@ -187,6 +189,7 @@ fn boot_all(
     requires built { IsBuilt (described_seen machine.now plan.now) }
     requires sources { AreSources machine.now.guests sources }
     requires lots { ServesAll table.now (layout_of machine.now.shape) (first_left (layout_of machine.now.shape) machine.now.lends) (page_claims 0 (map need_of machine.now.guests)) lots.items }
+    requires fresh { table.now.terms.first ≡ 0 }
     requires seats { AreSeats (length sources) seats }
     requires frames { table.now.terms.frames ≡ machine.now.shape.nodes * machine.now.shape.frames }
     requires lends { table.now.terms.lends ≡ machine.now.lends }

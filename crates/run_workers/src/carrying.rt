@@ -1,19 +1,20 @@
-//! The run items of one processor, carried out in their order.
+//! The items of one processor, carried out in their order.
 ghost use Rattle.std.specs.Prelude.{◌≡◌, ◌≤◌, ◌<◌, ◌++◌, ◌^◌, None, [], All, IfOk, OnOk, length};
+ghost use Rattle.guest_core.specs.GuestView.{shared_by};
 ghost use Rattle.guest_lock.specs.Fits.{Fits};
 ghost use Rattle.guest_lock.specs.Guests.{IsThere};
 ghost use Rattle.guest_lock.specs.Told.{shown};
-ghost use Rattle.run_workers.specs.Jobs.{planned_job};
-ghost use Rattle.run_workers.specs.Slices.{Serves, own, AreTold};
+ghost use Rattle.plan_due.specs.Planned.{planned};
+ghost use Rattle.plan_due.specs.Slices.{own, AreTold};
 ghost use Rattle.run_workers.specs.Parts.{as_list};
-ghost use Rattle.run_workers.specs.Planned.{planned};
-ghost use Rattle.run_workers.specs.Working.{IsSameToken, HasPlace, ItemFits, CarriesOne};
+ghost use Rattle.run_workers.specs.Working.{cell_in, machine_of, IsSameToken, HasPlace, ItemFits, Serves, CarriesOne};
 
 use crate::serving::{Job, serve};
 use guest_core::{Resources, SliceRecord};
 use guest_lock::{GuestCell, GuestCells, Starts};
 use machine_desc::Item;
 use outside_io::Gate;
+use plan_due::{Outcome, items_unload};
 use shootdown::ProcToken;
 use std::alloc::{AllocError, Global};
 use std::sync::Wait;
@@ -30,12 +31,10 @@ fn serve_at<N: Starts, const G: u8, R: Wait, T: Gate>(
 ) -> Result<SliceRecord, AllocError>
     requires there { IsThere cell.now G N.starts }
     requires token { Fits N.starts N.board token.old }
-    requires guest { job.guest.0 ≡ G }
-    requires place { HasPlace N.starts job.guest.0 job.vcpu.0 }
+    requires place { HasPlace N.starts G job.vcpu.0 }
     requires free { shown G token.old ≡ None }
-    requires table { resources.now.table.now ≡ N.shared.table }
-    requires wires { resources.now.wires.now ≡ N.shared.wires }
-    ensures served { IfOk result (λ slice. Serves (planned_job token.old.number job) token.old slice token.new) }
+    requires shared { shared_by resources.now ≡ N.shared }
+    ensures served { IfOk result (λ slice. Serves (cell_in N.starts token.old.number) job.item job.vcpu job.steps token.old G slice token.new) }
     ensures same { IsSameToken token.old token.new }
 {
     match cell {
@@ -58,9 +57,8 @@ fn serve_job<N: Starts, R: Wait, T: Gate>(
     requires token { Fits N.starts N.board token.old }
     requires place { HasPlace N.starts job.guest.0 job.vcpu.0 }
     requires free { shown job.guest.0 token.old ≡ None }
-    requires table { resources.now.table.now ≡ N.shared.table }
-    requires wires { resources.now.wires.now ≡ N.shared.wires }
-    ensures served { IfOk result (λ slice. Serves (planned_job token.old.number job) token.old slice token.new) }
+    requires shared { shared_by resources.now ≡ N.shared }
+    ensures served { IfOk result (λ slice. Serves (cell_in N.starts token.old.number) job.item job.vcpu job.steps token.old job.guest.0 slice token.new) }
     ensures same { IsSameToken token.old token.new }
 {
     match job.guest.0 {
@@ -76,7 +74,7 @@ fn serve_job<N: Starts, R: Wait, T: Gate>(
     }
 }
 
-/// Carries out an item, if it is a run item of the token's processor.
+/// Carries out an item, if it is one of the token's processor.
 fn carry_one<N: Starts, R: Wait, T: Gate>(
     rt: &R,
     alloc: Global,
@@ -86,14 +84,13 @@ fn carry_one<N: Starts, R: Wait, T: Gate>(
     gate: &T,
     number: u32,
     item: Item,
-) -> Result<Option<SliceRecord>, AllocError>
+) -> Result<Option<Outcome>, AllocError>
     requires few { length N.starts ≤ 8 }
     requires token { Fits N.starts N.board token.old }
     requires place { ItemFits N.starts item }
     requires free { (g : _) → shown g token.old ≡ None }
-    requires table { resources.now.table.now ≡ N.shared.table }
-    requires wires { resources.now.wires.now ≡ N.shared.wires }
-    ensures carried { IfOk result (λ slice. CarriesOne number item token.old slice token.new) }
+    requires shared { shared_by resources.now ≡ N.shared }
+    ensures carried { IfOk result (λ outcome. CarriesOne (machine_of N.starts) number item token.old outcome token.new) }
     ensures same { IsSameToken token.old token.new }
 {
     let Item::Run {
@@ -103,7 +100,7 @@ fn carry_one<N: Starts, R: Wait, T: Gate>(
         steps,
     } = item
     else {
-        return Ok(None);
+        unreachable!();
     };
     if processor != token.number() {
         return Ok(None);
@@ -114,20 +111,21 @@ fn carry_one<N: Starts, R: Wait, T: Gate>(
         vcpu,
         steps,
     };
-    Ok(Some(serve_job(rt, alloc, cells, token, resources, gate, job)?))
+    let slice = serve_job(rt, alloc, cells, token, resources, gate, job)?;
+    Ok(Some(Outcome::Slice(slice)))
 }
 
-/// Adds a slice, if there is one.
-fn add(slices: &mut Vec<SliceRecord>, slice: Option<SliceRecord>) -> Result<(), AllocError>
-    ensures { OnOk result (slices.new.items ≡ slices.old.items ++ as_list slice) }
+/// Adds an outcome, if there is one.
+fn add(outcomes: &mut Vec<Outcome>, outcome: Option<Outcome>) -> Result<(), AllocError>
+    ensures { OnOk result (outcomes.new.items ≡ outcomes.old.items ++ as_list outcome) }
 {
-    if let Some(slice) = slice {
-        slices.push(slice)?;
+    if let Some(outcome) = outcome {
+        outcomes.push(outcome)?;
     }
     Ok(())
 }
 
-/// Carries out the run items of the token's processor, in their order, and tells how each went.
+/// Carries out the items of the token's processor, in their order, and tells what came of each.
 pub(crate) fn carry_out<N: Starts, R: Wait, T: Gate>(
     rt: &R,
     alloc: Global,
@@ -136,20 +134,20 @@ pub(crate) fn carry_out<N: Starts, R: Wait, T: Gate>(
     resources: &Resources,
     gate: &T,
     items: &[Item],
-) -> Result<Vec<SliceRecord>, AllocError>
+) -> Result<Vec<Outcome>, AllocError>
     requires few { length N.starts ≤ 8 }
     requires few_items { length items.now < 2 ^ 32 }
     requires token { Fits N.starts N.board token.old }
     requires places { All (ItemFits N.starts) items.now }
     requires no_notes { token.old.notes ≡ [] }
-    requires table { resources.now.table.now ≡ N.shared.table }
-    requires wires { resources.now.wires.now ≡ N.shared.wires }
-    ensures told { IfOk result (λ slices. AreTold (own token.new.number (planned 0 items.now)) slices.items token.new.notes) }
+    requires shared { shared_by resources.now ≡ N.shared }
+    ensures told { IfOk result (λ outcomes. AreTold (machine_of N.starts) (own token.new.number (planned 0 items.now)) outcomes.items token.new.notes) }
     ensures same { IsSameToken token.old token.new }
 {
-    let mut slices = Vec::new(alloc);
+    items_unload();
+    let mut outcomes = Vec::new(alloc);
     for (number, item) in items.iter().enumerate() {
-        let slice = carry_one(
+        let outcome = carry_one(
             rt,
             alloc,
             cells,
@@ -159,7 +157,7 @@ pub(crate) fn carry_out<N: Starts, R: Wait, T: Gate>(
             number as u32,
             *item,
         )?;
-        add(&mut slices, slice)?;
+        add(&mut outcomes, outcome)?;
     }
-    Ok(slices)
+    Ok(outcomes)
 }

@@ -2,6 +2,7 @@
 ghost use Rattle.std.specs.Prelude.{◌≡◌, OnOk, IfOk};
 ghost use Rattle.std.specs.Bool.{OnTrue};
 ghost use Rattle.guest_core.specs.PacketCalls.{KeepsEnds};
+ghost use Rattle.guest_core.specs.GuestView.{shared_by};
 ghost use Rattle.guest_lock.specs.Guests.{GuestsFrom};
 ghost use Rattle.run_workers.specs.Draining.{HasNone, HasAll, Receives, AreKept, AreOthers, AreDrained};
 
@@ -90,8 +91,7 @@ pub(crate) fn settle_all<N: Starts, R: Wait>(
     resources: &Resources,
 ) -> Result<Vec<Guest>, AllocError>
     requires guests { GuestsFrom N.starts N.board N.shared 0 guests.items }
-    requires table { resources.now.table.now ≡ N.shared.table }
-    requires wires { resources.now.wires.now ≡ N.shared.wires }
+    requires shared { shared_by resources.now ≡ N.shared }
     ensures guests { IfOk result (λ done. GuestsFrom N.starts N.board N.shared 0 done.items) }
     ensures drained { IfOk result (λ done. AreDrained done.items) }
 {

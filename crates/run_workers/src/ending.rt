@@ -2,7 +2,7 @@
 ghost use Rattle.std.specs.Prelude.{◌≡◌, ◌≢◌, [], Some, IfOk};
 ghost use Rattle.base_words.specs.declared.events.End.TheVariants.{Budget};
 ghost use Rattle.frame_words.specs.Holders.{IsMade};
-ghost use Rattle.guest_core.specs.GuestView.{IsTableOf};
+ghost use Rattle.guest_core.specs.GuestView.{AreOf, shared_by};
 ghost use Rattle.guest_lock.specs.Guests.{GuestsFrom};
 ghost use Rattle.run_workers.specs.Draining.{AreDrained};
 ghost use Rattle.run_workers.specs.Ending.{HasLeft, AllLeft};
@@ -22,7 +22,7 @@ fn end(
     first: &mut Holder,
 ) -> Result<(GuestRecord, PassList, GuestSeat), AllocError>
     requires goes_on { guest.state.end ≢ Some Budget }
-    requires table { IsTableOf resources.now.table.now guest }
+    requires shared { AreOf (shared_by resources.now) guest }
     requires made { IsMade resources.now.table.now first.old }
     requires nothing { first.old.view.holds ≡ [] }
     ensures left { IfOk result (λ left. HasLeft guest left.0 left.1 left.2) }
@@ -48,8 +48,7 @@ pub(crate) fn end_all<N: Starts>(
 ) -> Result<(RecordList, AllPasses, SeatList), AllocError>
     requires guests { GuestsFrom N.starts N.board N.shared 0 guests.items }
     requires drained { AreDrained guests.items }
-    requires table { resources.now.table.now ≡ N.shared.table }
-    requires wires { resources.now.wires.now ≡ N.shared.wires }
+    requires shared { shared_by resources.now ≡ N.shared }
     requires made { IsMade resources.now.table.now first.old }
     requires nothing { first.old.view.holds ≡ [] }
     ensures left { IfOk result (λ left. AllLeft N.starts N.board N.shared.wires left.0 left.1 left.2) }

@@ -22,6 +22,7 @@ use guest_core::{Guest, Resources, RunRecord};
 use guest_lock::{GuestCells, Starts};
 use machine_desc::{Machine, Plan};
 use outside_io::Gate;
+use plan_due::plans_are_due;
 use shootdown::{TokenList, close_notes};
 use std::alloc::{AllocError, Global};
 use std::marker::Brand;
@@ -53,6 +54,7 @@ fn run_named<N: Starts + Send + Sync, R: Threads + Wait + Sync, G: Gate>(
     ensures nothing { IfOk result (λ out. first.new.view.holds ≡ []) }
     ensures same { IfOk result (λ out. first.new.table ≡ first.old.table) }
 {
+    plans_are_due();
     let resources = Resources { table, wires };
     let cells: GuestCells<N> = GuestCells::new(guests);
     let mut workers = workers_of(alloc, tokens)?;
@@ -61,9 +63,11 @@ fn run_named<N: Starts + Send + Sync, R: Threads + Wait + Sync, G: Gate>(
     let settled = settle_all::<N, R>(rt, alloc, cells.take_out(alloc)?, &resources)?;
     let (guests, passes, seats) = end_all::<N>(alloc, settled, &resources, first)?;
     close_notes(tokens, seats);
+    let (slices, failures) = in_order(alloc, plan.items.as_slice(), queues)?;
     let record = RunRecord {
         guests,
-        slices: in_order(alloc, plan.items.as_slice(), queues)?,
+        slices,
+        failures,
     };
     Ok((record, passes))
 }

@@ -1,11 +1,11 @@
 //! One run item, carried out.
-ghost use Rattle.std.specs.Prelude.{◌≡◌, ◌≢◌, ◌≤◌, None, IfOk};
+ghost use Rattle.std.specs.Prelude.{◌≡◌, ◌≢◌, ◌≤◌, ℕ, None, IfOk};
+ghost use Rattle.guest_core.specs.GuestView.{shared_by};
 ghost use Rattle.guest_lock.specs.declared.burst.Stop.TheVariants.{Paused};
 ghost use Rattle.guest_lock.specs.Fits.{Fits, HasVcpu};
 ghost use Rattle.guest_lock.specs.Told.{shown, Bursts};
-ghost use Rattle.run_workers.specs.Slices.{Serves, IsCause};
-ghost use Rattle.run_workers.specs.Working.{IsSameToken};
-ghost use Rattle.run_workers.specs.Jobs.{planned_job};
+ghost use Rattle.plan_due.specs.Slices.{IsCause};
+ghost use Rattle.run_workers.specs.Working.{as_told, cell_in, IsSameToken, Serves};
 
 use base_words::{GuestId, VcpuId};
 use guest_core::{Cut, Loaded, Resources, SliceRecord};
@@ -36,8 +36,7 @@ fn make_turns<N: Starts, const G: u8, R: Wait, T: Gate>(
 ) -> Burst
     requires token { Fits N.starts N.board token.old }
     requires loaded { shown G token.old ≢ None }
-    requires table { resources.now.table.now ≡ N.shared.table }
-    requires wires { resources.now.wires.now ≡ N.shared.wires }
+    requires shared { shared_by resources.now ≡ N.shared }
     ensures told { Bursts token.old G result token.new }
     ensures few { result.steps ≤ job.steps }
     ensures all { result.stop ≡ Paused → result.steps ≡ job.steps }
@@ -72,7 +71,7 @@ fn make_turns<N: Starts, const G: u8, R: Wait, T: Gate>(
 fn cut_of(burst: Burst, planned: u64) -> Result<Cut, AllocError>
     requires all { burst.stop ≡ Paused → burst.steps ≡ planned }
     requires few { burst.steps ≤ planned }
-    ensures { IfOk result (IsCause planned burst.steps burst.stop) }
+    ensures { IfOk result (λ cut. (cell : ℕ) → IsCause cell planned burst.steps (as_told burst.stop) cut) }
 {
     if burst.steps == planned {
         return Ok(Cut::Whole);
@@ -96,12 +95,10 @@ pub(crate) fn serve<N: Starts, const G: u8, R: Wait, T: Gate>(
     job: Job,
 ) -> Result<SliceRecord, AllocError>
     requires token { Fits N.starts N.board token.old }
-    requires guest { job.guest.0 ≡ G }
     requires vcpu { HasVcpu N.starts G job.vcpu.0 }
     requires free { shown G token.old ≡ None }
-    requires table { resources.now.table.now ≡ N.shared.table }
-    requires wires { resources.now.wires.now ≡ N.shared.wires }
-    ensures served { IfOk result (λ slice. Serves (planned_job token.old.number job) token.old slice token.new) }
+    requires shared { shared_by resources.now ≡ N.shared }
+    ensures served { IfOk result (λ slice. Serves (cell_in N.starts token.old.number) job.item job.vcpu job.steps token.old G slice token.new) }
     ensures same { IsSameToken token.old token.new }
 {
     tokens_grow();

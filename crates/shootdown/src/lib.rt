@@ -8,11 +8,7 @@ mod closing;
 mod laws;
 mod making;
 mod notes;
-#[cfg(test)]
-mod races;
 mod seat;
-#[cfg(test)]
-mod tests;
 mod threads;
 mod token;
 mod view;

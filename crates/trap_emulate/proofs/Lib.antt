@@ -9,4 +9,3 @@ pub mod StepLemmas
 pub mod TrapLemmas
 pub mod TryLemmas
 pub mod WordLemmas
-pub mod StandInLemmas

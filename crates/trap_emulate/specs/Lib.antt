@@ -5,4 +5,3 @@ pub mod AtHand
 pub mod Requests
 pub mod Deeds
 pub mod Decisions
-pub mod StandIn

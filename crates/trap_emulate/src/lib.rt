@@ -17,12 +17,3 @@ pub use guest_devs::DevAct;
 pub use laws::{input_keeps, step_leads, traps_hold};
 pub use requests::{Access, access_of, asked};
 pub use stepping::emulate;
-
-#[cfg(test)]
-mod faults;
-#[cfg(test)]
-mod rig;
-#[cfg(test)]
-mod stand_in;
-#[cfg(test)]
-mod tests;

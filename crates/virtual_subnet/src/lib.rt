@@ -6,8 +6,6 @@ mod accepting;
 mod answers;
 mod law;
 mod offering;
-#[cfg(test)]
-mod tests;
 
 pub use accepting::accept;
 pub use answers::{Accept, CopyCause};

@@ -1,5 +1,5 @@
 -- What a guest's calls on its passes answer, and what they leave.
-use Rattle.std.specs.Prelude.{◌≡◌, ◌≢◌, ◌↔◌, ℕ, Bool, IsTrue, Option, Some}
+use Rattle.std.specs.Prelude.{◌≡◌, ◌≢◌, ◌↔◌, ℕ, ◌+◌, ◌-◌, ◌≤◌, ◌^◌, min, Bool, IsTrue, Option, Some}
 use Rattle.wire_queue.specs.Ends.{Sending, Taking}
 use Rattle.wire_queue.specs.Steps.{SentBy, TakenBy, AreFirstOf}
 use Rattle.wire_queue.specs.PassLists.{sending_to, taking_from}
@@ -7,15 +7,21 @@ use Rattle.wire_queue.specs.declared.packet.WirePacket.{WirePacket}
 use Rattle.wire_queue.specs.declared.lists.PassList.{PassList}
 use Rattle.wire_queue.specs.declared.wires.Sent.{Sent}
 
+-- how often wires were asked, with so many times more; the count stands still at its type's end
+abbrev pub asked_more : ℕ → ℕ → ℕ
+asked_more asks more = min (asks + more) (2 ^ 64 - 1)
+
 -- at most the end of the wire to this guest is another
 pub record SendsOnly (old new : PassList) (to : ℕ) : Type 0 where
   pub guest : new.guest ≡ old.guest
+  pub asks : new.asks ≡ old.asks
   pub sends : (other : ℕ) → other ≢ to → sending_to new other ≡ sending_to old other
   pub takes : (other : ℕ) → taking_from new other ≡ taking_from old other
 
 -- at most the end of the wire from this guest is another
 pub record TakesOnly (old new : PassList) (from : ℕ) : Type 0 where
   pub guest : new.guest ≡ old.guest
+  pub asks : new.asks ≡ asked_more old.asks 1
   pub sends : (other : ℕ) → sending_to new other ≡ sending_to old other
   pub takes : (other : ℕ) → other ≢ from → taking_from new other ≡ taking_from old other
 
@@ -37,9 +43,17 @@ pub record TakesFrom (old : PassList) (from : ℕ) (answer : Option WirePacket) 
   pub taken : TakenBy before answer after
   pub only : TakesOnly old new from
 
--- all ends stay
+-- wires were asked at least so often, and all ends stay
+pub record AsksInVain (old new : PassList) (more : ℕ) : Type 0 where
+  pub guest : new.guest ≡ old.guest
+  pub asks : asked_more old.asks more ≤ new.asks
+  pub sends : (other : ℕ) → sending_to new other ≡ sending_to old other
+  pub takes : (other : ℕ) → taking_from new other ≡ taking_from old other
+
+-- all ends stay, and no wire was asked
 pub record SameEnds (old new : PassList) : Type 0 where
   pub guest : new.guest ≡ old.guest
+  pub asks : new.asks ≡ old.asks
   pub sends : (other : ℕ) → sending_to new other ≡ sending_to old other
   pub takes : (other : ℕ) → taking_from new other ≡ taking_from old other
 

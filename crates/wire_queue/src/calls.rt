@@ -40,7 +40,9 @@ impl PassList {
         let Some(pass) = &mut takes[from.0 as usize] else {
             unreachable!()
         };
-        wires.receive(rt, pass)
+        let packet = wires.receive(rt, pass);
+        self.asks = self.asks.saturating_add(1);
+        packet
     }
 
     /// Whether this guest has taken all that the wire from another guest accepted. All passes stay as they are. It takes no

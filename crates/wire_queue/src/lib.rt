@@ -5,21 +5,19 @@
 mod calls;
 mod closing;
 mod crossing;
+mod law;
 mod lists;
 mod log;
 mod making;
 mod packet;
 mod passes;
 mod rule;
-#[cfg(test)]
-mod soak;
 mod terms;
-#[cfg(test)]
-mod tests;
 mod wire;
 mod wires;
 
 pub use crossing::cross_threads;
+pub use law::{each_guest_has_its_list, the_end_tells_of_two_guests};
 pub use lists::{AllPasses, PassList};
 pub use packet::{Body, WirePacket};
 pub use passes::{SendPass, TakePass};

@@ -7,12 +7,13 @@ use crate::passes::{SendPass, TakePass};
 use base_words::{GuestId, Sequence};
 
 /// One guest's passes: its end of the wire to each other guest, and of the wire from each other guest. Both stand at the other
-/// guest's number, and none at its own.
+/// guest's number, and none at its own. And how often it asked a wire for a packet, as far as the count goes.
 #[derive(Drop)]
 pub struct PassList {
     pub guest: GuestId,
     pub sends: Vec<Option<SendPass>>,
     pub takes: Vec<Option<TakePass>>,
+    pub asks: u64,
 }
 
 /// The passes of all guests, by their number.

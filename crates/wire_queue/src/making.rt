@@ -51,6 +51,7 @@ fn lists(alloc: Global, guests: u8) -> Result<Vec<PassList>, AllocError>
             guest: GuestId(guest),
             sends: places(alloc, count)?,
             takes: places(alloc, count)?,
+            asks: 0,
         })?;
     }
     Ok(lists)

@@ -1,3 +1,4 @@
+use Rattle.isolation_law.specs.Start.{start}
 use Rattle.guest_core.proofs.laws.laws.Goals as goal
 
 pub returns-clause-rows : goal.returns-clause-rows
@@ -8,6 +9,19 @@ returns-clause-rows c = record {
   loaded = c.halts_stay.ensures.loaded;
   grows = c.run_grows.ensures.row;
   around = c.row_keeps.ensures.around;
+  skips = c.entries_tell.ensures.skips;
+  stays_dead = c.failures_stay.ensures.stays;
+  fails = c.failures_stay.ensures.once;
+  ends = c.entries_tell.ensures.ends;
+  outlives = c.entries_tell.ensures.outlives;
+  alive = c.goes_on_alive.ensures.loaded;
+}
+
+pub returns-clause-runs : goal.returns-clause-runs
+returns-clause-runs c = record {
+  live = λ b journal t run. c.isolation_from.ensures.uses_live (start b) t journal (c.start_holds.ensures.uses_live b) run;
+  skips = c.journals_tell.ensures.skips;
+  ended = c.journals_tell.ensures.ended;
 }
 
 pub returns-clause-sends : goal.returns-clause-sends

@@ -1,16 +1,15 @@
 use Rattle.monitor_run.specs.Report.{guest_text, sums_text}
-use Rattle.outside_io.proofs.WritingLemmas.{Puts-behind, Puts-stopped}
 use Rattle.monitor_run.proofs.render.put_record.Goals as goal
 
 pub returns-in-Ok : goal.returns-in-Ok
 returns-in-Ok g c =
     let view = g.K.Sink.view in
     let guest = c.args.guest.now in
-    Puts-behind (view c.args.sink.now) (view c.put_guest.new.sink) (view c.put_sums.new.sink) (guest_text c.args.number guest.console guest.end) (sums_text c.args.sums guest.journal.entries) c.put_sums.result
+    c.pieces_join.ensures.behind (view c.args.sink.now) (view c.put_guest.new.sink) (view c.put_sums.new.sink) (guest_text c.args.number guest.console guest.end) (sums_text c.args.sums guest.journal.entries) c.put_sums.result
     c.in-Ok.ensures c.put_sums.ensures
 
 pub returns-in-Err : goal.returns-in-Err
 returns-in-Err g c =
     let view = g.K.Sink.view in
     let guest = c.args.guest.now in
-    Puts-stopped (view c.args.sink.now) (view c.put_guest.new.sink) (guest_text c.args.number guest.console guest.end) (sums_text c.args.sums guest.journal.entries) c.in-Err.fault c.in-Err.ensures
+    c.pieces_join.ensures.stopped (view c.args.sink.now) (view c.put_guest.new.sink) (guest_text c.args.number guest.console guest.end) (sums_text c.args.sums guest.journal.entries) c.in-Err.fault c.in-Err.ensures

@@ -5,7 +5,7 @@ pub returns-clause-nodes : goal.returns-clause-nodes
 returns-clause-nodes c = cell_nodes-below
 
 pub returns-clause-falls : goal.returns-clause-falls
-returns-clause-falls c = cell_falls
+returns-clause-falls c = cell_falls c.holds_and_looks_add_up.ensures.holds
 
 pub returns-clause-nothing : goal.returns-clause-nothing
 returns-clause-nothing c = cell_nothing

@@ -19,7 +19,7 @@ pub returns-in-Ok-clause-found : goal.returns-in-Ok-clause-found
 returns-in-Ok-clause-found c =
     let i = c.loop-place.invariant in
     let node : NodeId = get_or c.as_slice-node-items.result.now c.loop-place.place none in
-    finds _ _ _ _ _ _ _ _ _ node _ _ i.3 (here _ _ _ c.as_slice-node-items.ensures c.loop-place-test.true) i.1 c.in-Ok.ensures.sought
+    finds c.holds_and_looks_add_up.ensures.holds c.holds_and_looks_add_up.ensures.looks c.holds_and_looks_add_up.ensures.tell _ _ _ _ _ _ _ _ _ node _ _ i.3 (here _ _ _ c.as_slice-node-items.ensures c.loop-place-test.true) i.1 c.in-Ok.ensures.sought
 
 pub loop-place-preserved : goal.loop-place-preserved
 loop-place-preserved c =
@@ -29,7 +29,7 @@ loop-place-preserved c =
       c.seek.ensures.same ∙ i.0,
       length-set c.loop-place.shown.items c.loop-place.place c.in-Err.entry ∙ i.1,
       i.2,
-      searched_more _ _ _ _ _ _ _ _ _ node _ i.3 (here _ _ _ c.as_slice-node-items.ensures c.loop-place-test.true) within c.in-Err.ensures.sought,
+      searched_more c.holds_and_looks_add_up.ensures.looks c.holds_and_looks_add_up.ensures.tell _ _ _ _ _ _ _ _ _ node _ i.3 (here _ _ _ c.as_slice-node-items.ensures c.loop-place-test.true) within c.in-Err.ensures.sought,
     )
 
 pub returns-clause-refused : goal.returns-clause-refused

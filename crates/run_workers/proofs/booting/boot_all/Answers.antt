@@ -80,7 +80,7 @@ boot_one-requires-clause-lot c = λ spec e.
     let left = first_left layout machine.lends in
     let number : c.len-number.result ≡ length c.loop-source.guests.items = search rules in
     let at : slice_get c.args.lots.items c.len-number.result ≡ Some c.in-Some-next-2.lot = next-lot c.args.lots.items _ (length c.loop-source.guests.items) c.in-Some-next-2.lot c.len-number.result number (sym i.6 ∙ c.in-Some-next-2.ensures.cases.0) in
-    (_, c.len-number.result, c.each_guest_has_its_lot.ensures.each c.args.table.now layout left (map need_of machine.guests) c.args.lots.items c.requires.lots c.len-number.result (need_of spec) c.in-Some-next-2.lot (map-get need_of machine.guests c.len-number.result spec e) at)
+    c.each_guest_has_its_lot.ensures.each c.args.table.now layout left (map need_of machine.guests) c.args.lots.items c.requires.lots c.len-number.result (need_of spec) c.in-Some-next-2.lot (map-get need_of machine.guests c.len-number.result spec e) at
 
 pub loop-source-preserved : goal.loop-source-preserved
 loop-source-preserved c =

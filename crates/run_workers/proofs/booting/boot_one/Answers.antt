@@ -9,7 +9,8 @@ use Rattle.node_frames.specs.Places.{cell_of_node}
 use Rattle.boot_frames.specs.Claims.{page_claim}
 use Rattle.boot_frames.specs.Needs.{need_of}
 use Rattle.run_workers.proofs.BootLemmas.{may-start, started, wired}
-use Rattle.run_workers.proofs.LotLemmas.{holds-for, is-around, fits-around}
+use Rattle.run_workers.proofs.LotLemmas.{holds-for, is-around, fits-around, lot-placed}
+use Rattle.run_workers.specs.Booting.{left_behind}
 use Rattle.run_workers.proofs.TopLemmas.{on-ok}
 use Rattle.run_workers.proofs.booting.boot_one.Goals as goal
 
@@ -22,7 +23,7 @@ boot-requires-clause-may c =
     let same : there.0 ≡ spec = sym (get-index machine.guests c.args.number there.0 spec there.1).1 ∙ ap (λ (l : List GuestSpec). slice_index_or l c.args.number spec) (sym c.as_slice.ensures) ∙ is in
     let at : slice_get machine.guests c.args.number ≡ Some spec = there.1 ∙ ap Some same in
     let guest : IsGuest machine.shape.nodes spec = all-get (IsGuest machine.shape.nodes) machine.guests c.args.number spec c.requires.described.guests at in
-    let backed : length c.args.lot.frames ≡ length c.args.source.image.pages = (c.requires.lot spec at).2.taken.count ∙ sym (c.requires.source spec at).pages in
+    let backed : length c.args.lot.frames ≡ length c.args.source.image.pages = (c.requires.lot spec at).taken.count ∙ sym (c.requires.source spec at).pages in
     may-start machine c.args.plan.now _ c.args.source spec spec.vcpus c.args.lot.frames c.requires.described c.requires.built c.in_ok-site_of.ensures guest (c.requires.source spec at) refl refl backed
 
 -- its ends of the wires
@@ -41,12 +42,13 @@ boot-requires-clause-holds c =
     let same : there.0 ≡ spec = sym (get-index machine.guests c.args.number there.0 spec there.1).1 ∙ ap (λ (l : List GuestSpec). slice_index_or l c.args.number spec) (sym c.as_slice.ensures) ∙ is in
     let at : slice_get machine.guests c.args.number ≡ Some spec = there.1 ∙ ap Some same in
     let lot = c.requires.lot spec at in
-    let claim = page_claim lot.1 (need_of spec) in
-    holds-for table layout (cell_of_node layout spec.node.0) c.args.lot _ c.requires.frames lot.2.taken.new
+    let left = left_behind machine c.args.number in
+    let claim = page_claim c.args.number (need_of spec) in
+    holds-for table layout (cell_of_node layout spec.node.0) c.args.lot _ c.requires.frames lot.taken.new
     (record {
-      frames = c.a_lot_holds_its_frames.ensures.frames table layout lot.0 claim c.args.lot lot.2;
-      under = c.a_lot_holds_its_frames.ensures.under table layout lot.0 claim c.args.lot lot.2;
-      loans = c.a_lot_holds_its_frames.ensures.loans table layout lot.0 claim c.args.lot lot.2;
+      frames = c.a_lot_holds_its_frames.ensures.frames table layout left claim c.args.lot lot;
+      under = c.a_lot_holds_its_frames.ensures.under table layout left claim c.args.lot lot;
+      loans = c.a_lot_holds_its_frames.ensures.loans table layout left claim c.args.lot lot;
     })
     refl (is-around machine _ spec c.in_ok-site_of.ensures refl)
 
@@ -67,6 +69,6 @@ returns c =
     let same-input : typed.0 ≡ input = sym (get-index plan.input c.args.number typed.0 input typed.1).1 ∙ ap (λ (l : List (List InputEntry)). slice_index_or l c.args.number input) (sym c.as_slice-2.ensures) ∙ is-input in
     let at-input : slice_get plan.input c.args.number ≡ Some input = typed.1 ∙ ap Some same-input in
     let lot = c.requires.lot spec at in
-    let backed : length c.args.lot.frames ≡ length c.args.source.image.pages = lot.2.taken.count ∙ sym (c.requires.source spec at).pages in
+    let placed = lot-placed machine plan c.args.table.now c.args.number spec c.args.lot c.requires.built.no_cache c.an_empty_cache_takes_nothing.ensures.left c.requires.fresh lot in
     let fits = fits-around c.args.table.now machine plan _ spec c.requires.described c.requires.frames c.requires.lends c.in_ok-site_of.ensures refl in
-    on-ok _ _ c.boot.result (λ guest starts. started machine plan _ c.args.source spec c.args.lot.frames input c.args.seat (record { table = c.args.table.now; wires = c.args.wires.now }) c.args.passes c.args.lot.holder.table c.args.number guest c.in_ok-site_of.ensures refl refl at at-input backed c.requires.seat.number_is starts lot.2.made fits c.requires.passes.guest_is) c.boot.ensures
+    on-ok _ _ c.boot.result (λ guest starts. started machine plan _ c.args.source spec c.args.lot.frames input c.args.seat (record { table = c.args.table.now; wires = c.args.wires.now }) c.args.passes c.args.lot.holder.table c.args.number guest c.in_ok-site_of.ensures refl refl at at-input placed c.requires.seat.number_is starts lot.made fits c.requires.passes.guest_is) c.boot.ensures

@@ -1,7 +1,7 @@
 -- The next guest is settled, with the guests before it and behind it as others.
 use Rattle.std.proofs.Common.{rules, ◌≡◌, ◌<◌, ◌++◌, ◌∷◌, [], List, length, sym, ap, ◌∙◌, subst}
 use Rattle.std.proofs.lemmas.List.{append_assoc, with_items_is}
-use Rattle.guest_core.specs.GuestView.{Monitored, Shared}
+use Rattle.guest_core.specs.GuestView.{Monitored, Shared, shared_by}
 use Rattle.guest_lock.specs.Guests.{GuestsFrom}
 use Rattle.run_workers.specs.Draining.{AreKept, AreOthers}
 use Rattle.run_workers.proofs.SettledLemmas.{AreSettled, from-next, others-before, others-after, next-wires, settled-more, split}
@@ -14,7 +14,7 @@ settle-requires-clause-wires g c =
     let some : 0 < length c.loop-alloc.rest.items = search rules in
     let rest : c.loop-alloc.rest.items ≡ c.remove-guest.result ∷ c.remove-guest.new.self.items = split c.loop-alloc.rest.items c.remove-guest.result c.remove-guest.result c.remove-guest.new.self.items some c.remove-guest.ensures.value c.remove-guest.ensures.items in
     let from = subst (λ (l : List Monitored). GuestsFrom g.N.Starts.starts g.N.Starts.board g.N.Starts.shared 0 (done ++ l)) rest i.0 in
-    next-wires g.N.Starts.starts g.N.Starts.board g.N.Starts.shared done c.remove-guest.result c.remove-guest.new.self.items from ∙ sym c.requires.wires
+    next-wires g.N.Starts.starts g.N.Starts.board g.N.Starts.shared done c.remove-guest.result c.remove-guest.new.self.items from ∙ ap (λ (s : Shared). s.wires) (sym c.requires.shared)
 
 pub settle-requires-clause-before : goal.settle-requires-clause-before
 settle-requires-clause-before g c =
@@ -23,7 +23,7 @@ settle-requires-clause-before g c =
     let some : 0 < length c.loop-alloc.rest.items = search rules in
     let rest : c.loop-alloc.rest.items ≡ c.remove-guest.result ∷ c.remove-guest.new.self.items = split c.loop-alloc.rest.items c.remove-guest.result c.remove-guest.result c.remove-guest.new.self.items some c.remove-guest.ensures.value c.remove-guest.ensures.items in
     let from = subst (λ (l : List Monitored). GuestsFrom g.N.Starts.starts g.N.Starts.board g.N.Starts.shared 0 (done ++ l)) rest i.0 in
-    let shared : g.N.Starts.shared ≡ record { table = c.args.resources.now.table.now; wires = c.args.resources.now.wires.now } = λ k. record { table = sym c.requires.table k; wires = sym c.requires.wires k } in
+    let shared : g.N.Starts.shared ≡ shared_by c.args.resources.now = sym c.requires.shared in
     let value : c.deref_mut.result.now ≡ done = c.deref_mut.ensures.value in
     subst (λ (s : Shared). AreOthers s c.remove-guest.result c.deref_mut.result.now) shared
     (subst (AreOthers g.N.Starts.shared c.remove-guest.result) (sym value) (others-before g.N.Starts.starts g.N.Starts.board g.N.Starts.shared done c.remove-guest.result c.remove-guest.new.self.items from))
@@ -35,7 +35,7 @@ settle-requires-clause-after g c =
     let some : 0 < length c.loop-alloc.rest.items = search rules in
     let rest : c.loop-alloc.rest.items ≡ c.remove-guest.result ∷ c.remove-guest.new.self.items = split c.loop-alloc.rest.items c.remove-guest.result c.remove-guest.result c.remove-guest.new.self.items some c.remove-guest.ensures.value c.remove-guest.ensures.items in
     let from = subst (λ (l : List Monitored). GuestsFrom g.N.Starts.starts g.N.Starts.board g.N.Starts.shared 0 (done ++ l)) rest i.0 in
-    let shared : g.N.Starts.shared ≡ record { table = c.args.resources.now.table.now; wires = c.args.resources.now.wires.now } = λ k. record { table = sym c.requires.table k; wires = sym c.requires.wires k } in
+    let shared : g.N.Starts.shared ≡ shared_by c.args.resources.now = sym c.requires.shared in
     let value : c.deref_mut-in-loop-alloc.result.now ≡ c.remove-guest.new.self.items = c.deref_mut-in-loop-alloc.ensures.value in
     subst (λ (s : Shared). AreOthers s c.remove-guest.result c.deref_mut-in-loop-alloc.result.now) shared
     (subst (AreOthers g.N.Starts.shared c.remove-guest.result) (sym value) (others-after g.N.Starts.starts g.N.Starts.board g.N.Starts.shared done c.remove-guest.result c.remove-guest.new.self.items from))

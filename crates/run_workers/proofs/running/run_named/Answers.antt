@@ -1,4 +1,4 @@
-use Rattle.std.proofs.Common.{rules, ◌≡◌, ◌<◌, map, Some, sym, subst, ◌∙◌, ap, length, List, All}
+use Rattle.std.proofs.Common.{rules, ◌≡◌, map, Some, sym, subst, ◌∙◌, ap, length, List, All}
 use Rattle.std.specs.Prelude.{slice_index_or}
 use Rattle.std.proofs.lemmas.List.{length-map, with_items_is}
 use Rattle.guest_core.specs.GuestView.{Shared}
@@ -6,21 +6,21 @@ use Rattle.wire_queue.specs.Between.{Made}
 use Rattle.shootdown.specs.Notes.{Token, Seat, AreInStep}
 use Rattle.isolation_law.specs.Start.{Boot}
 use Rattle.machine_desc.specs.declared.plan.Item.{Item}
-use Rattle.guest_core.specs.declared.records.SliceRecord.{SliceRecord}
 use Rattle.guest_lock.specs.Guests.{GuestsFrom}
-use Rattle.run_workers.specs.Planned.{planned}
-use Rattle.run_workers.specs.Working.{IsOn}
+use Rattle.plan_due.specs.Planned.{planned}
+use Rattle.plan_due.specs.PlanDue.{slices_of, failures_of}
+use Rattle.plan_due.specs.Dealt.{queue_of, dealt}
+use Rattle.plan_due.specs.Slices.{own, AreTold}
+use Rattle.plan_due.specs.Leftover.{IsPlace, Leftover}
+use Rattle.run_workers.specs.Working.{machine_of, IsOn}
+use Rattle.run_workers.specs.WholeRecord.{lefts_of}
 use Rattle.run_workers.specs.Workers.{IsReady}
-use Rattle.run_workers.specs.Parts.{token_of, slices_of, slices_in}
+use Rattle.run_workers.specs.Parts.{token_of, outcomes_of, outcomes_in}
 use Rattle.run_workers.specs.Booting.{start_of}
 use Rattle.run_workers.specs.Ending.{AllLeft, AllTold}
 use Rattle.run_workers.specs.Named.{board_of_tokens}
-use Rattle.run_workers.proofs.WholeLemmas.{Leftover, is-due, state-count}
-use Rattle.run_workers.proofs.RunLemmas.{all-passes, starts-numbers, all-guests, ready, done-at, all-places, all-processors, seat-boards, token-boards, all-records}
-use Rattle.run_workers.specs.PlanDue.{IsDue}
-use Rattle.run_workers.specs.Dealt.{dealt}
-use Rattle.run_workers.proofs.NoteLists.{Every}
-use Rattle.run_workers.proofs.DueLemmas.{IsPlace}
+use Rattle.run_workers.proofs.LeftoverLemmas.{has-left, all-places, fails-once, guest-count}
+use Rattle.run_workers.proofs.RunLemmas.{all-passes, starts-numbers, all-guests, ready, done-at, all-processors, starts-cells, seat-boards, token-boards, all-records}
 use Rattle.run_workers.proofs.running.run_named.Goals as goal
 
 pub new-cells-requires : goal.new-cells-requires
@@ -48,12 +48,12 @@ close_notes-requires g c =
     let same : length now ≡ c.in_ok-workers.workers.len = c.all_work.ensures.all ∙ c.deref_mut.ensures.len in
     let all = with_items_is c.in_ok-workers.workers now same in
     let tokens-are : c.in_ok-tokens.tokens ≡ map token_of now = c.in_ok-tokens.ensures.tokens ∙ ap (map token_of) all in
-    let made : map Some (slices_in c.in_ok-tokens.queues.items) ≡ map slices_of now = c.in_ok-tokens.ensures.slices ∙ ap (map slices_of) all in
-    let done = done-at board c.args.plan.now.items c.args.tokens was now (slices_in c.in_ok-tokens.queues.items) may.tokens_are tokens c.all_work.ensures.all c.all_work.ensures.each made in
+    let made : map Some (outcomes_in c.in_ok-tokens.queues.items) ≡ map outcomes_of now = c.in_ok-tokens.ensures.outcomes ∙ ap (map outcomes_of) all in
+    let done = done-at (machine_of g.N.Starts.starts) board c.args.plan.now.items c.args.tokens was now (outcomes_in c.in_ok-tokens.queues.items) may.tokens_are tokens c.all_work.ensures.all c.all_work.ensures.each made in
     let left : AllLeft g.N.Starts.starts g.N.Starts.board g.N.Starts.shared.wires c.in_ok-guests.guests c.in_ok-guests.passes c.in_ok-guests.seats = c.in_ok-guests.ensures.left in
     record {
       board = board;
-      of_tokens = subst (λ (l : List Token). All (λ (t : Token). t.board ≡ board) l) (sym tokens-are) (token-boards board (planned 0 c.args.plan.now.items) (slices_in c.in_ok-tokens.queues.items) (map token_of now) done);
+      of_tokens = subst (λ (l : List Token). All (λ (t : Token). t.board ≡ board) l) (sym tokens-are) (token-boards (machine_of g.N.Starts.starts) board (planned 0 c.args.plan.now.items) (outcomes_in c.in_ok-tokens.queues.items) (map token_of now) done);
       of_seats = subst (λ b. All (λ (s : Seat). s.board ≡ b) c.in_ok-guests.seats) c.requires.board (seat-boards g.N.Starts.starts g.N.Starts.board 0 left.states c.in_ok-guests.guests c.in_ok-guests.seats left.each);
     }
 
@@ -64,9 +64,9 @@ in_order-requires g c = λ i d l.
     let tokens : map token_of was ≡ c.args.tokens = search rules in
     let same : length now ≡ c.in_ok-workers.workers.len = c.all_work.ensures.all ∙ c.deref_mut.ensures.len in
     let all = with_items_is c.in_ok-workers.workers now same in
-    let made : map Some (slices_in c.in_ok-tokens.queues.items) ≡ map slices_of now = c.in_ok-tokens.ensures.slices ∙ ap (map slices_of) all in
+    let made : map Some (outcomes_in c.in_ok-tokens.queues.items) ≡ map outcomes_of now = c.in_ok-tokens.ensures.outcomes ∙ ap (map outcomes_of) all in
     let count : length c.args.tokens ≡ length c.in_ok-tokens.queues.items =
-    ap length (sym tokens) ∙ length-map was token_of ∙ sym c.all_work.ensures.all ∙ sym (length-map now slices_of) ∙ ap length (sym made) ∙ length-map (slices_in c.in_ok-tokens.queues.items) Some ∙ length-map c.in_ok-tokens.queues.items _ in
+    ap length (sym tokens) ∙ length-map was token_of ∙ sym c.all_work.ensures.all ∙ sym (length-map now outcomes_of) ∙ ap length (sym made) ∙ length-map (outcomes_in c.in_ok-tokens.queues.items) Some ∙ length-map c.in_ok-tokens.queues.items _ in
     let on : All (IsOn (length c.in_ok-tokens.queues.items)) c.args.plan.now.items = subst (λ n. All (IsOn n) c.args.plan.now.items) count c.requires.may.on in
     subst (λ (l : List Item). All (IsOn (length c.in_ok-tokens.queues.items)) l) (sym c.as_slice.ensures) on i d l
 
@@ -78,7 +78,7 @@ returns-clause-run g c =
     let was = c.deref_mut.result.now in
     let now = c.all_work.new.workers in
     let items = c.args.plan.now.items in
-    let queues = slices_in c.in_ok-tokens.queues.items in
+    let queues = outcomes_in c.in_ok-tokens.queues.items in
     let lefts = c.in_ok-guests.guests in
     let lists = c.in_ok-guests.passes in
     let seats = c.in_ok-guests.seats in
@@ -86,27 +86,34 @@ returns-clause-run g c =
     let same : length now ≡ c.in_ok-workers.workers.len = c.all_work.ensures.all ∙ c.deref_mut.ensures.len in
     let all = with_items_is c.in_ok-workers.workers now same in
     let tokens-are : c.in_ok-tokens.tokens ≡ map token_of now = c.in_ok-tokens.ensures.tokens ∙ ap (map token_of) all in
-    let made : map Some queues ≡ map slices_of now = c.in_ok-tokens.ensures.slices ∙ ap (map slices_of) all in
-    let done = done-at board items c.args.tokens was now queues may.tokens_are tokens c.all_work.ensures.all c.all_work.ensures.each made in
+    let made : map Some queues ≡ map outcomes_of now = c.in_ok-tokens.ensures.outcomes ∙ ap (map outcomes_of) all in
+    let done = done-at (machine_of g.N.Starts.starts) board items c.args.tokens was now queues may.tokens_are tokens c.all_work.ensures.all c.all_work.ensures.each made in
     let left : AllLeft starts board g.N.Starts.shared.wires lefts lists seats = subst (λ b. AllLeft starts b g.N.Starts.shared.wires lefts lists seats) c.requires.board (subst (λ (s : List Boot). AllLeft s g.N.Starts.board g.N.Starts.shared.wires lefts lists seats) c.requires.starts c.in_ok-guests.ensures.left) in
     let out = map token_of now in
     let many : length out ≡ length c.args.tokens = length-map now token_of ∙ c.all_work.ensures.all ∙ sym (length-map was token_of) ∙ ap length tokens in
-    let states = state-count starts board 0 left.states lefts seats left.each ∙ left.count in
-    let over : Leftover starts board (planned 0 items) out queues left.states lefts seats = record {
-      some = subst (λ n. 0 < n) (sym many) may.some;
+    let guests = lefts_of left.states lefts in
+    let guests-are : length guests ≡ length starts = guest-count starts board left.states lefts seats left.each left.count in
+    let processors : All (λ (b : Boot). length b.around.processors ≡ length out) starts = subst (λ n. All (λ (b : Boot). length b.around.processors ≡ n) starts) (sym many) (all-processors c.args.guests.items (length c.args.tokens) may.processors) in
+    let over : Leftover (machine_of starts) (planned 0 items) out queues guests seats = record {
       numbers = λ p t at. (done p t at).number_is;
-      told = λ p t at. (done p t at).told;
-      queues_are = sym (length-map queues Some) ∙ ap length made ∙ length-map now slices_of ∙ sym (length-map now token_of);
-      left = left.each;
-      processors = subst (λ n. All (λ (b : Boot). length b.around.processors ≡ n) starts) (sym many) (all-processors c.args.guests.items (length c.args.tokens) may.processors);
+      told = λ p t at. subst (λ (s : List Boot). AreTold (machine_of s) (own p (planned 0 items)) (queue_of queues p) t.notes) c.requires.starts (done p t at).told;
+      queues_are = sym (length-map queues Some) ∙ ap length made ∙ length-map now outcomes_of ∙ sym (length-map now token_of);
+      left = has-left starts board g.N.Starts.shared.wires (length out) left.states lefts lists seats left.each left.told processors (starts-cells c.args.guests.items may.cells);
       in_step = subst (λ (l : List Token). AreInStep l seats) tokens-are c.close_notes.ensures;
-      places = subst (λ n. Every (IsPlace n left.states) (planned 0 items)) (sym many) (all-places starts (length c.args.tokens) left.states 0 items states may.places may.on);
+      places = subst (λ n. All (IsPlace n guests) (planned 0 items)) (sym many) (all-places starts (length c.args.tokens) guests 0 items guests-are may.places may.on);
+      many = sym guests-are;
+      once = fails-once starts items may.places;
     } in
-    let slices : c.in_ok-in_order.field-0 ≡ dealt (planned 0 items) queues = c.in_ok-in_order.ensures ∙ ap (λ (l : List Item). dealt (planned 0 l) queues) c.as_slice.ensures in
+    let dealt-is = ap (λ (l : List Item). dealt (planned 0 l) queues) c.as_slice.ensures in
     record {
       states = left.states;
       guests = all-records starts board left.states lefts seats left.each left.count;
-      due = subst (λ (s : List SliceRecord). IsDue (planned 0 items) left.states lefts s) (sym slices) (is-due starts board (planned 0 items) out queues left.states lefts seats over);
+      due = record {
+        outcomes = dealt (planned 0 items) queues;
+        slices = c.in_ok-slices.ensures.slices ∙ ap slices_of dealt-is;
+        failures = c.in_ok-slices.ensures.failures ∙ ap failures_of dealt-is;
+        due = c.plans_are_due.ensures (machine_of starts) (planned 0 items) out queues guests seats over;
+      };
       told = subst (λ (m : Made). AllTold starts m 0 left.states lefts lists) (ap (λ (x : Shared). x.wires) c.requires.shared) left.told;
       drained = left.drained;
     }

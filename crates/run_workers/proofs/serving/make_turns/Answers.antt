@@ -9,6 +9,6 @@ burst-burst-requires-after_bounds g c κs within =
       omega arith,
       (
         subst (Fits g.N.Starts.starts g.N.Starts.board) (sym i.0.token) (record { board_is = c.requires.token.board_is; is_processor = c.requires.token.is_processor }),
-        (λ e. c.requires.loaded (sym shows ∙ e), (c.requires.table, c.requires.wires)),
+        (λ e. c.requires.loaded (sym shows ∙ e), c.requires.shared),
       ),
     )

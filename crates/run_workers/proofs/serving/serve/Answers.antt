@@ -5,6 +5,7 @@ use Rattle.shootdown.specs.Notes.{Token}
 use Rattle.guest_core.specs.GuestCalls.{processor_of}
 use Rattle.guest_lock.specs.Fits.{Fits}
 use Rattle.guest_lock.specs.Told.{with_told, shown, Bursts}
+use Rattle.run_workers.specs.Working.{cell_in}
 use Rattle.run_workers.proofs.ServingLemmas.{loaded-shown, served-done, served-ended}
 use Rattle.run_workers.proofs.serving.serve.Goals.{in-Done, in-Ended}
 use Rattle.run_workers.proofs.serving.serve.Goals as goal
@@ -18,7 +19,7 @@ make_turns-burst-requires-after_bounds g c κs within =
       omega arith,
       (
         subst (Fits g.N.Starts.starts g.N.Starts.board) (sym load) (record { board_is = c.requires.token.board_is; is_processor = c.requires.token.is_processor }),
-        (λ e. (let both : Some c.args.job.vcpu.0 ≡ None = sym is ∙ e in absurd cc), (c.requires.table, c.requires.wires)),
+        (λ e. (let both : Some c.args.job.vcpu.0 ≡ None = sym is ∙ e in absurd cc), c.requires.shared),
       ),
     )
 
@@ -41,16 +42,18 @@ unload-requires g c =
 pub returns-clause-served : goal.returns-clause-served
 returns-clause-served g c =
     let old = c.args.token.now in
+    let job = c.args.job in
     let p = processor_of old in
-    let cause = c.in_ok-cut_of.ensures in
+    let cell = cell_in g.N.Starts.starts old.number in
+    let cause = c.in_ok-cut_of.ensures cell in
     let burst = c.match-branch-2.burst in
     elim c.match-branch-2.branch [
       | in-Done w ↦ (
-          let load : c.load.new.token ≡ with_told old g.row.G (Made (Load p c.args.job.vcpu) ∷ []) = search rules in
-          served-done c.tokens_grow.ensures.more c.tokens_grow.ensures.own g.row.G c.args.job old c.load.new.token w.make_turns-burst.new.token c.match-branch-2.token burst c.in_ok-cut_of.field-0 c.requires.guest load
+          let load : c.load.new.token ≡ with_told old g.row.G (Made (Load p job.vcpu) ∷ []) = search rules in
+          served-done c.tokens_grow.ensures.more c.tokens_grow.ensures.own g.row.G cell job.item job.steps job.vcpu old c.load.new.token w.make_turns-burst.new.token c.match-branch-2.token burst c.in_ok-cut_of.field-0 load
           (subst (λ b. Bursts c.load.new.token g.row.G b w.make_turns-burst.new.token) (sym w.burst-is) w.make_turns-burst.ensures.told)
           (w.token-is ∙ w.unload.ensures) cause)
       | in-Ended w ↦ (
           let token : c.load.new.token ≡ with_told old g.row.G (Ended w.in-Ended.end ∷ []) = search rules in
-          served-ended g.row.G c.args.job old c.match-branch-2.token burst w.in-Ended.end c.in_ok-cut_of.field-0 c.requires.guest w.burst-is (w.token-is ∙ token) cause)
+          served-ended g.row.G cell job.item job.steps job.vcpu old c.match-branch-2.token burst w.in-Ended.end c.in_ok-cut_of.field-0 w.burst-is (w.token-is ∙ token) cause)
     ]

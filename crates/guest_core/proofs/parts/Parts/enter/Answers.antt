@@ -1,5 +1,5 @@
 -- A step that the processor made by itself is its row, and the guest is kept; a trap has changed nothing.
-use Rattle.std.proofs.Common.{◌≡◌, ℕ, ◌<◌, ◌++◌, [], ◌∷◌, List, length, refl, sym, ap, ◌∙◌, subst, arith}
+use Rattle.std.proofs.Common.{rules, ◌≡◌, ℕ, ◌<◌, ◌++◌, [], ◌∷◌, List, length, refl, sym, ap, ◌∙◌, subst, arith}
 use Rattle.base_words.specs.declared.events.Event.{Event}
 use Rattle.base_words.specs.declared.events.Event.TheVariants.{Direct}
 use Rattle.base_words.specs.declared.ids.ProcId.{ProcId}
@@ -29,10 +29,10 @@ returns-in-Direct-clause-kept g c =
     let v = c.args.vcpu in
     let same : c.number-processor.result ≡ q = ap (λ (n : ℕ). record { 0 = n }) c.number-processor.ensures in
     let w = c.laws.ensures.rows in
-    let there : q.0 < length s.processors = subst (λ (n : ℕ). q.0 < n) (sym k.kept.processors) c.requires.token.is_processor in
+    let there : q.0 < length s.processors = subst (λ (n : ℕ). q.0 < n) (sym k.kept.processors) c.requires.may.notes.is_processor in
     let did : StepsDirect s q.0 v.0 m c.in-Direct.access = subst (λ (n : ℕ). StepsDirect s n v.0 m c.in-Direct.access) c.number-processor.ensures c.in-Direct.ensures.executes in
     let on : GoesOn m = c.step.ensures.goes_on in
-    let kept = kept-direct w old.start s m old.journal.entries old.seat.notes q v k.no_policy k.kept there did.row refl in
+    let kept = kept-direct w c.laws.ensures.runs old.start s m old.journal.entries old.seat.notes q v k.no_policy k.kept there did.row in
     let loads = as-many w s m (Direct q v) did.row (λ r. refl) in
     let room = two-entries _ _ _ c.requires.room in
     let around = w.around s m (Direct q v) did.row in
@@ -57,15 +57,24 @@ returns-in-Direct-clause-kept g c =
           packets.sent (rw c.step.ensures.cells refl) around (quiet-one s (Direct q v) refl (λ x. tt)));
     }
 
-pub returns-in-Direct-clause-learns : goal.returns-in-Direct-clause-learns
-returns-in-Direct-clause-learns g c =
+pub returns-in-Direct-clause-leaves : goal.returns-in-Direct-clause-leaves
+returns-in-Direct-clause-leaves g c =
     let old = c.args.self.now in
     let token : Token = c.args.token.now in
+    let s = state_of old.course in
+    let m = state_of c.step.new.self in
+    let q : ProcId = processor_of token in
     let v = c.args.vcpu in
-    let same : c.number-processor.result ≡ processor_of token = ap (λ (n : ℕ). record { 0 = n }) c.number-processor.ensures in
+    let same : c.number-processor.result ≡ q = ap (λ (n : ℕ). record { 0 = n }) c.number-processor.ensures in
+    let did : StepsDirect s q.0 v.0 m c.in-Direct.access = subst (λ (n : ℕ). StepsDirect s n v.0 m c.in-Direct.access) c.number-processor.ensures c.in-Direct.ensures.executes in
+    let loads = as-many c.laws.ensures.rows s m (Direct q v) did.row (λ r. refl) in
     record {
-      seat = ap (λ (x : Seat). x.notes) c.note.ensures.seat ∙ ap (λ (p : ProcId). old.seat.notes ++ sided token.number (Made (Direct p v)) ∷ []) same;
-      token_is = c.note.ensures.token ∙ ap (λ (p : ProcId). record token { notes = token.notes ++ sided old.seat.number (Made (Direct p v)) ∷ [] }) same ∙ ap (λ (n : ℕ). record token { notes = token.notes ++ sided n (Made (Direct (processor_of token) v)) ∷ [] }) c.requires.kept.seat;
+      learns = record {
+        seat = ap (λ (x : Seat). x.notes) c.note.ensures.seat ∙ ap (λ (p : ProcId). old.seat.notes ++ sided token.number (Made (Direct p v)) ∷ []) same;
+        token_is = c.note.ensures.token ∙ ap (λ (p : ProcId). record token { notes = token.notes ++ sided old.seat.number (Made (Direct p v)) ∷ [] }) same ∙ ap (λ (n : ℕ). record token { notes = token.notes ++ sided n (Made (Direct (processor_of token) v)) ∷ [] }) c.requires.kept.seat;
+      };
+      same = record { number = refl; start = refl; board = ap (λ (x : Seat). x.board) c.note.ensures.seat; table = refl; wires = refl; own = refl };
+      room = search rules;
     }
 
 pub returns-in-Direct-clause-turns : goal.returns-in-Direct-clause-turns
@@ -78,4 +87,4 @@ returns-in-Direct-clause-turns g c =
     let v = c.args.vcpu in
     let same : c.number-processor.result ≡ q = ap (λ (n : ℕ). record { 0 = n }) c.number-processor.ensures in
     let did : StepsDirect s q.0 v.0 m c.in-Direct.access = subst (λ (n : ℕ). StepsDirect s n v.0 m c.in-Direct.access) c.number-processor.ensures c.in-Direct.ensures.executes in
-    record { makes = record { journal = c.push_direct.ensures.entries ∙ ap (λ (p : ProcId). old.journal.entries ++ Direct p v ∷ []) same; run = one-row s m (Direct q v) did.row }; direct = did }
+    record { makes = record { makes = record { journal = c.push_direct.ensures.entries ∙ ap (λ (p : ProcId). old.journal.entries ++ Direct p v ∷ []) same; run = one-row s m (Direct q v) did.row }; passes = refl }; direct = did }

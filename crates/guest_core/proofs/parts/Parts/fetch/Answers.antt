@@ -1,5 +1,5 @@
 -- A packet that comes to hand is the last one taken.
-use Rattle.std.proofs.Common.{◌≡◌, ◌≤◌, Some, option_map, sym, ap, subst}
+use Rattle.std.proofs.Common.{◌≡◌, ◌≤◌, Some, option_map, sym, ap, ◌∙◌, subst}
 use Rattle.isolation_law.specs.GuestState.{GuestState}
 use Rattle.isolation_law.specs.Surroundings.{Surroundings}
 use Rattle.wire_queue.specs.Between.{Made}
@@ -24,7 +24,7 @@ returns-in-Some-clause-kept g c =
     let held : t.hand ≡ Some (hand_of c.in-Some.packet) = ap (λ (x : Course). option_map hand_of x.hand) c.take_in_hand.ensures.same in
     let wires = old.wiring.wires.value in
     let list : IsListOf wires c.next.new.self.passes = subst (λ (m : Made). IsListOf m c.next.new.self.passes) (sym c.requires.wires) c.in-Some.ensures.list in
-    let again = wired-again wires old.wiring.passes c.next.new.self.passes old.start.around k.wired list c.in-Some.ensures.taken.1.only.guest in
+    let again = wired-again wires old.wiring.passes c.next.new.self.passes old.start.around k.wired list (c.in-Some.ensures.taken.takes.only.guest ∙ c.in-Some.ensures.taken.vain.guest) in
     let here : IsWired wires old.wiring.passes s.around = subst (λ (x : Surroundings). IsWired wires old.wiring.passes x) (sym k.kept.around) k.wired in
     record {
       sound = c.take_in_hand.ensures.sound;

@@ -1,17 +1,16 @@
 -- The load is its row, and the guest is kept.
-use Rattle.std.proofs.Common.{◌≡◌, ℕ, ◌<◌, Some, true, false, List, [], ◌∷◌, ◌++◌, refl, sym, ap, ◌∙◌, subst, arith}
+use Rattle.std.proofs.Common.{rules, ℕ, ◌<◌, Some, List, [], ◌∷◌, ◌++◌, refl, sym, ap, ◌∙◌, subst, arith}
 use Rattle.base_words.specs.declared.events.Event.{Event}
 use Rattle.base_words.specs.declared.events.Event.TheVariants.{Load}
 use Rattle.shootdown.specs.declared.notes.Note.TheVariants.{Made, Ended}
 use Rattle.shootdown.specs.declared.view.SidedNote.{SidedNote}
 use Rattle.shootdown.specs.Notes.{Seat, sided}
-use Rattle.isolation_law.specs.GuestState.{GuestState, processor}
+use Rattle.isolation_law.specs.GuestState.{GuestState}
 use Rattle.guest_course.specs.CourseView.{state_of}
 use Rattle.guest_core.specs.Kept.{Kept}
-use Rattle.guest_core.proofs.CountLemmas.{swapped}
 use Rattle.guest_core.proofs.HoldingLemmas.{frames-stay}
 use Rattle.guest_core.proofs.KeptProofs.{kept-one, kept-answer, load-leaves, one-more}
-use Rattle.guest_core.proofs.RoomLemmas.{two-entries}
+use Rattle.guest_core.proofs.RoomLemmas.{two-entries, less-room}
 use Rattle.guest_core.specs.Wiring.{Posted}
 use Rattle.guest_core.proofs.WiringProofs.{posted-same, quiet-one, quiet-load}
 use Rattle.guest_core.proofs.parts.Parts.load_vcpu.Goals as goal
@@ -23,7 +22,7 @@ returns-in-Some-clause-kept c =
     let k = c.requires.kept in
     let is = c.in-Some.is in
     let n : SidedNote = sided c.args.token.now.number (Ended c.in-Some.end) in
-    let kept = kept-answer old.start s old.journal.entries old.seat.notes n k.kept (subst (λ (n : ℕ). c.args.token.now.number < n) (sym k.kept.processors) c.requires.token.is_processor) refl (is, λ same. c.requires.before (is ∙ ap Some same)) (record { steps = λ v e. absurd (never e) }) (λ l. refl) in
+    let kept = kept-answer c.laws.ensures.runs old.start s old.journal.entries old.seat.notes n k.kept (subst (λ (n : ℕ). c.args.token.now.number < n) (sym k.kept.processors) c.requires.may.notes.is_processor) tt (is, λ same. c.requires.may.before (is ∙ ap Some same)) in
     record {
       sound = k.sound;
       seat = ap (λ (x : Seat). x.number) c.note.ensures.seat ∙ k.seat;
@@ -38,9 +37,6 @@ returns-in-Some-clause-kept c =
       wired = k.wired;
       posted = k.posted;
     }
-  where
-    never : false ≡ true → ⊥
-    never e = cc
 
 pub returns-clause-kept : goal.returns-clause-kept
 returns-clause-kept c =
@@ -54,7 +50,7 @@ returns-clause-kept c =
     let w = c.laws.ensures.rows in
     let row = c.load.ensures.loads in
     let v' = c.laws.ensures.takes in
-    let kept = kept-one w old.start s t old.journal.entries old.seat.notes (Load p v) n k.kept (load-leaves s t p v row refl k.kept.nothing_due) row.is_processor refl tt (record { steps = λ u e. absurd (never e) }) (λ r. swapped r p.0 (Some v.0) (processor s r).loaded) in
+    let kept = kept-one w c.laws.ensures.runs old.start s t old.journal.entries old.seat.notes (Load p v) n k.kept (load-leaves s t p v row k.kept.nothing_due) refl row.is_processor in
     let more = one-more w s t p v row in
     let room = two-entries _ _ _ c.requires.room in
     record {
@@ -73,6 +69,13 @@ returns-clause-kept c =
       posted = subst (λ (j : List Event). Posted t j old.wiring.passes) (sym c.push.ensures.entries) (posted-same v' s t old.journal.entries (Load p v ∷ []) old.wiring.passes k.posted (quiet-load s t p.0 v.0 row)
           (ap (λ (x : GuestState). x.devices.sent) row.after) (ap (λ (x : GuestState). x.sent_from) row.after) (w.around s t (Load p v) row) (quiet-one s (Load p v) refl (λ x. tt)));
     }
-  where
-    never : false ≡ true → ⊥
-    never e = cc
+
+pub returns-clause-leaves : goal.returns-clause-leaves
+returns-clause-leaves c =
+    let more = one-more c.laws.ensures.rows (state_of c.args.self.now.course) (state_of c.load.new.self) c.number-processor.result c.args.vcpu c.load.ensures.loads in
+    let c' = c.load.ensures in
+    record {
+      learns = record { seat = search rules; token_is = search rules };
+      same = record { number = refl; start = refl; board = ap (λ (x : Seat). x.board) c.note-2.ensures.seat; table = refl; wires = refl; own = refl };
+      room = rw (c'.print_room, c'.send_room, c'.cells, c'.packets.received) (less-room _ _ _ _ _ _ (omega (arith, more, c.push.ensures.room)) (omega arith));
+    }

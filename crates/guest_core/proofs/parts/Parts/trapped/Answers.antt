@@ -49,9 +49,9 @@ returns-in-Refill-clause-kept g c =
     let v = c.args.vcpu in
     let same : c.number-processor.result ≡ q = ap (λ (n : ℕ). record { 0 = n }) c.number-processor.ensures in
     let w = c.laws.ensures.rows in
-    let there : q.0 < length s.processors = subst (λ (n : ℕ). q.0 < n) (sym k.kept.processors) c.requires.token.is_processor in
+    let there : q.0 < length s.processors = subst (λ (n : ℕ). q.0 < n) (sym k.kept.processors) c.requires.may.notes.is_processor in
     let did : Refills s q.0 m = refilled v.0 c.number-processor.ensures c.in-Refill.is c.in_ok-serve.ensures.serves in
-    let kept = kept-refill w old.start s m old.journal.entries old.seat.notes q k.kept did refl in
+    let kept = kept-refill w c.laws.ensures.runs old.start s m old.journal.entries old.seat.notes q k.kept did in
     let loads = as-many w s m (Refill q) did (λ r. refl) in
     let room = two-entries _ _ _ c.requires.room in
     let v' = c.laws.ensures.takes in
@@ -84,7 +84,7 @@ returns-in-Refill-clause-turns g c =
     let v = c.args.vcpu in
     let same : c.number-processor.result ≡ q = ap (λ (n : ℕ). record { 0 = n }) c.number-processor.ensures in
     let did : Refills s q.0 m = refilled v.0 c.number-processor.ensures c.in-Refill.is c.in_ok-serve.ensures.serves in
-    record { journal = c.push.ensures.entries ∙ ap (λ (p : ProcId). old.journal.entries ++ Refill p ∷ []) same; run = one-row s m (Refill q) did }
+    record { makes = record { journal = c.push.ensures.entries ∙ ap (λ (p : ProcId). old.journal.entries ++ Refill p ∷ []) same; run = one-row s m (Refill q) did }; passes = refl }
 
 -- before the guest may end it has its frames as before
 pub conclude-requires-clause-fits : goal.conclude-requires-clause-fits
@@ -97,7 +97,7 @@ conclude-requires-clause-fits g c =
     let v = c.args.vcpu in
     let did : Emulates s q.0 v.0 m = emulated c.number-processor.ensures c.in-Emulate.is c.in_ok-serve.ensures.serves in
     let around = c.laws.ensures.rows.around s m (Emulate q v) (inl did) ∙ c.requires.kept.kept.around in
-    subst (λ (x : Surroundings). FitsAround c.args.resources.now.table.now x) (sym around) c.requires.table.fits
+    subst (λ (x : Surroundings). FitsAround c.args.resources.now.table.now x) (sym around) c.requires.shared.table.fits
 
 pub conclude-requires-clause-frames : goal.conclude-requires-clause-frames
 conclude-requires-clause-frames g c =
@@ -133,12 +133,12 @@ returns-in-Emulate-clause-kept g c =
     let v = c.args.vcpu in
     let same : c.number-processor.result ≡ q = ap (λ (n : ℕ). record { 0 = n }) c.number-processor.ensures in
     let w = c.laws.ensures.rows in
-    let there : q.0 < length s.processors = subst (λ (n : ℕ). q.0 < n) (sym k.kept.processors) c.requires.token.is_processor in
+    let there : q.0 < length s.processors = subst (λ (n : ℕ). q.0 < n) (sym k.kept.processors) c.requires.may.notes.is_processor in
     let t = state_of c.conclude.new.course in
     let halted = all_halted m.vcpus in
     let did : Emulates s q.0 v.0 m = emulated c.number-processor.ensures c.in-Emulate.is c.in_ok-serve.ensures.serves in
     let ends = c.conclude.ensures.concludes in
-    let kept = kept-emulate w old.start s m t old.journal.entries old.seat.notes q v k.kept there did refl refl halted ends in
+    let kept = kept-emulate w c.laws.ensures.runs old.start s m t old.journal.entries old.seat.notes q v k.kept there did halted ends in
     let loads = as-many w s m (Emulate q v) (inl did) (λ r. refl) in
     let loads' = same-loads halted w m t ends in
     let room = two-entries _ _ _ c.requires.room in
@@ -157,7 +157,7 @@ returns-in-Emulate-clause-kept g c =
       unloads = omega (arith, loads, loads', room, c.conclude.ensures.room);
       few_guests = k.few_guests;
       wired = subst (λ (m : Wires). IsWired m c.post.new.self.passes old.start.around) (ap (λ x. x.value) (sym c.post.ensures.wires))
-          (wired-again old.wiring.wires.value old.wiring.passes c.post.new.self.passes old.start.around k.wired (subst (λ (m : Wires). IsListOf m c.post.new.self.passes) (sym c.requires.wires) c.post.ensures.list) (sent-guest old.wiring.passes c.post.new.self.passes c.in-Emulate.out c.post.ensures.sent));
+          (wired-again old.wiring.wires.value old.wiring.passes c.post.new.self.passes old.start.around k.wired (subst (λ (m : Wires). IsListOf m c.post.new.self.passes) (sym c.requires.shared.wires) c.post.ensures.list) (sent-guest old.wiring.passes c.post.new.self.passes c.in-Emulate.out c.post.ensures.sent));
       posted = subst (λ (j : List Event). Posted t j c.post.new.self.passes) (sym (c.conclude.ensures.entries ∙ ap (λ (p : ProcId). old.journal.entries ++ step_entries p v halted) same))
           (posted-out u' v' old.wiring.wires.value s t old.journal.entries (step_entries q v halted) old.wiring.passes c.post.new.self.passes c.in-Emulate.out here k.posted
           (posts-concluded halted s m t c.in-Emulate.out (subst (λ a. Posts s (out_of (Ok a)) m) c.in-Emulate.is c.in_ok-serve.ensures.posts) ends) (quiet-step s q v halted) c.post.ensures.sent);
@@ -173,21 +173,13 @@ returns-in-Emulate-clause-turns g c =
     let v = c.args.vcpu in
     let same : c.number-processor.result ≡ q = ap (λ (n : ℕ). record { 0 = n }) c.number-processor.ensures in
     let did : Emulates s q.0 v.0 m = emulated c.number-processor.ensures c.in-Emulate.is c.in_ok-serve.ensures.serves in
+    let posts : Posts s c.in-Emulate.out m = subst (λ a. Posts s (out_of (Ok a)) m) c.in-Emulate.is c.in_ok-serve.ensures.posts in
+    let sent = posts-concluded (all_halted m.vcpus) s m (state_of c.conclude.new.course) c.in-Emulate.out posts c.conclude.ensures.concludes in
     emulate-turn (all_halted m.vcpus) (guest_of old) _ m q v refl did c.conclude.ensures.concludes (c.conclude.ensures.entries ∙ ap (λ (p : ProcId). old.journal.entries ++ step_entries p v (all_halted m.vcpus)) same)
+    (record { out = c.in-Emulate.out; sends = sent.sends; sent = c.post.ensures.sent })
 
-pub returns-in-Emulate-clause-learns : goal.returns-in-Emulate-clause-learns
-returns-in-Emulate-clause-learns g c =
-    let old = c.args.self.now in
-    let token : Token = c.args.token.now in
-    let v = c.args.vcpu in
-    let same : c.number-processor.result ≡ processor_of token = ap (λ (n : ℕ). record { 0 = n }) c.number-processor.ensures in
-    record {
-      seat = ap (λ (x : Seat). x.notes) c.note.ensures.seat ∙ ap (λ (p : ProcId). old.seat.notes ++ sided token.number (Made (Emulate p v)) ∷ []) same;
-      token_is = c.note.ensures.token ∙ ap (λ (p : ProcId). record token { notes = token.notes ++ sided old.seat.number (Made (Emulate p v)) ∷ [] }) same ∙ ap (λ (n : ℕ). record token { notes = token.notes ++ sided n (Made (Emulate (processor_of token) v)) ∷ [] }) c.requires.kept.seat;
-    }
-
-pub returns-in-Emulate-clause-room : goal.returns-in-Emulate-clause-room
-returns-in-Emulate-clause-room g c =
+pub returns-in-Emulate-clause-leaves : goal.returns-in-Emulate-clause-leaves
+returns-in-Emulate-clause-leaves g c =
     let old = c.args.self.now in
     let token : Token = c.args.token.now in
     let s = state_of old.course in
@@ -197,14 +189,20 @@ returns-in-Emulate-clause-room g c =
     let v = c.args.vcpu in
     let same : c.number-processor.result ≡ q = ap (λ (n : ℕ). record { 0 = n }) c.number-processor.ensures in
     let w = c.laws.ensures.rows in
-    let there : q.0 < length s.processors = subst (λ (n : ℕ). q.0 < n) (sym k.kept.processors) c.requires.token.is_processor in
     let t = state_of c.conclude.new.course in
     let halted = all_halted m.vcpus in
     let did : Emulates s q.0 v.0 m = emulated c.number-processor.ensures c.in-Emulate.is c.in_ok-serve.ensures.serves in
     let loads = as-many w s m (Emulate q v) (inl did) (λ r. refl) in
     let loads' = same-loads halted w m t c.conclude.ensures.concludes in
     let ends = c.conclude.ensures in
-    rw (ends.devs, ends.cells, ends.received) (less-room _ _ _ _ _ _ (omega (arith, loads, loads', ends.room)) (rw c.serve.ensures.received (less-calls _ _ _ _ _ _ _ c.serve.ensures.print_room c.serve.ensures.send_room c.serve.ensures.cells)))
+    record {
+      learns = record {
+        seat = ap (λ (x : Seat). x.notes) c.note.ensures.seat ∙ ap (λ (p : ProcId). old.seat.notes ++ sided token.number (Made (Emulate p v)) ∷ []) same;
+        token_is = c.note.ensures.token ∙ ap (λ (p : ProcId). record token { notes = token.notes ++ sided old.seat.number (Made (Emulate p v)) ∷ [] }) same ∙ ap (λ (n : ℕ). record token { notes = token.notes ++ sided n (Made (Emulate (processor_of token) v)) ∷ [] }) k.seat;
+      };
+      same = record { number = refl; start = refl; board = ap (λ (x : Seat). x.board) c.note.ensures.seat; table = ends.same; wires = ap (λ x. x.value) c.post.ensures.wires; own = sent-guest old.wiring.passes c.post.new.self.passes c.in-Emulate.out c.post.ensures.sent };
+      room = rw (ends.devs, ends.cells, ends.received) (less-room _ _ _ _ _ _ (omega (arith, loads, loads', ends.room)) (rw c.serve.ensures.received (less-calls _ _ _ _ _ _ _ c.serve.ensures.print_room c.serve.ensures.send_room c.serve.ensures.cells)));
+    }
 
 -- what goes out is on a wire of the guest
 pub post-requires-clause-fits : goal.post-requires-clause-fits

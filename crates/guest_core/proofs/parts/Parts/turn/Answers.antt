@@ -1,5 +1,5 @@
 -- A turn is the next entry, or the news that there is none.
-use Rattle.std.proofs.Common.{◌≡◌, ℕ, ◌<◌, Some, unwrap_or, true, false, length, refl, sym, ap, ◌∙◌, subst}
+use Rattle.std.proofs.Common.{◌≡◌, ℕ, ◌<◌, Some, unwrap_or, true, length, refl, sym, ap, ◌∙◌, subst}
 use Rattle.std.proofs.lemmas.List.{get_or_default}
 use Rattle.base_words.specs.declared.ids.VcpuId.{VcpuId}
 use Rattle.private_machine.specs.Vcpu.{no_vcpu}
@@ -9,15 +9,12 @@ use Rattle.shootdown.specs.Notes.{Seat, sided}
 use Rattle.private_machine.specs.declared.vcpu.Vcpu.{Vcpu}
 use Rattle.isolation_law.specs.GuestState.{processor, vcpu_of}
 use Rattle.guest_course.specs.CourseView.{state_of}
-use Rattle.guest_core.specs.GuestCalls.{Learns, processor_of, loaded_on, Turns, told_of_turn}
+use Rattle.guest_core.specs.GuestCalls.{Leaves, processor_of, loaded_on, Turns, told_of_turn}
 use Rattle.guest_core.specs.GuestView.{guest_of}
 use Rattle.guest_core.proofs.KeptProofs.{kept-answer}
 use Rattle.guest_core.proofs.EnterProofs.{of-these}
 use Rattle.guest_core.proofs.parts.Parts.turn.Given.{Over}
 use Rattle.guest_core.proofs.parts.Parts.turn.Goals as goal
-
-never : false ≡ true → ⊥
-never e = cc
 
 pub returns-in-Some-clause-kept : goal.returns-in-Some-clause-kept
 returns-in-Some-clause-kept g c =
@@ -26,7 +23,7 @@ returns-in-Some-clause-kept g c =
     let k = c.requires.kept in
     let is = c.in-Some.is in
     let n : SidedNote = sided c.args.token.now.number (Ended c.in-Some.end) in
-    let kept = kept-answer old.start s old.journal.entries old.seat.notes n k.kept (subst (λ (n : ℕ). c.args.token.now.number < n) (sym k.kept.processors) c.requires.token.is_processor) refl (is, λ same. c.requires.before (is ∙ ap Some same)) (record { steps = λ v e. absurd (never e) }) (λ l. refl) in
+    let kept = kept-answer c.laws.ensures.runs old.start s old.journal.entries old.seat.notes n k.kept (subst (λ (n : ℕ). c.args.token.now.number < n) (sym k.kept.processors) c.requires.may.notes.is_processor) tt (is, λ same. c.requires.may.before (is ∙ ap Some same)) in
     record {
       sound = k.sound;
       seat = ap (λ (x : Seat). x.number) c.note.ensures.seat ∙ k.seat;
@@ -51,7 +48,7 @@ returns-then-index-clause-kept g c =
     let n : SidedNote = sided c.args.token.now.number (Halted v) in
     let there : v.0 < length s.vcpus = k.sound.loaded c.number.result.0 v.0 (sym c.in-Some-loaded.ensures) in
     let halted : (vcpu_of s v.0).halted ≡ true = ap (λ (x : Vcpu). x.halted) (get_or_default s.vcpus v.0 no_vcpu c.index.result.now there ∙ sym c.index.ensures) ∙ c.if-index.true in
-    let kept = kept-answer old.start s old.journal.entries old.seat.notes n k.kept (subst (λ (n : ℕ). c.args.token.now.number < n) (sym k.kept.processors) c.requires.token.is_processor) refl halted (record { steps = λ v e. absurd (never e) }) (λ l. refl) in
+    let kept = kept-answer c.laws.ensures.runs old.start s old.journal.entries old.seat.notes n k.kept (subst (λ (n : ℕ). c.args.token.now.number < n) (sym k.kept.processors) c.requires.may.notes.is_processor) tt halted in
     record {
       sound = k.sound;
       seat = ap (λ (x : Seat). x.number) c.note-then-index.ensures.seat ∙ k.seat;
@@ -74,5 +71,5 @@ loaded-is g c = ap (λ l. record { 0 = unwrap_or l 0 }) (c.in-Some-loaded.ensure
 pub returns-clause-turns : goal.returns-clause-turns
 returns-clause-turns g c = subst (λ (v : VcpuId). Turns (guest_of c.args.self.now) (processor_of c.args.token.now) v (guest_of c.enter.new.self) c.enter.result) (loaded-is g c) c.enter.ensures.turns
 
-pub returns-clause-learns : goal.returns-clause-learns
-returns-clause-learns g c = subst (λ (v : VcpuId). Learns (guest_of c.args.self.now) c.args.token.now (told_of_turn (processor_of c.args.token.now) v c.enter.result) (guest_of c.enter.new.self) c.enter.new.token) (loaded-is g c) c.enter.ensures.learns
+pub returns-clause-leaves : goal.returns-clause-leaves
+returns-clause-leaves g c = subst (λ (v : VcpuId). Leaves (guest_of c.args.self.now) c.args.token.now (told_of_turn (processor_of c.args.token.now) v c.enter.result) (guest_of c.enter.new.self) c.enter.new.token) (loaded-is g c) c.enter.ensures.leaves

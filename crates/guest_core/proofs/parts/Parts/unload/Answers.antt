@@ -1,14 +1,13 @@
 -- The unload is its row, and the guest is kept.
-use Rattle.std.proofs.Common.{◌≡◌, ℕ, ◌<◌, None, true, false, List, [], ◌∷◌, ◌++◌, length, refl, sym, ap, ◌∙◌, subst, arith}
+use Rattle.std.proofs.Common.{rules, ℕ, ◌<◌, List, [], ◌∷◌, ◌++◌, length, refl, sym, ap, ◌∙◌, subst, arith}
 use Rattle.base_words.specs.declared.events.Event.{Event}
 use Rattle.base_words.specs.declared.events.Event.TheVariants.{Unload}
 use Rattle.shootdown.specs.declared.notes.Note.TheVariants.{Made}
 use Rattle.shootdown.specs.declared.view.SidedNote.{SidedNote}
 use Rattle.shootdown.specs.Notes.{Seat, sided}
-use Rattle.isolation_law.specs.GuestState.{GuestState, processor}
+use Rattle.isolation_law.specs.GuestState.{GuestState}
 use Rattle.guest_course.specs.CourseView.{state_of}
 use Rattle.guest_core.specs.Kept.{Kept}
-use Rattle.guest_core.proofs.CountLemmas.{swapped}
 use Rattle.guest_core.proofs.HoldingLemmas.{frames-stay}
 use Rattle.guest_core.proofs.KeptProofs.{kept-one, unload-leaves, one-fewer}
 use Rattle.guest_core.proofs.RoomLemmas.{same-room}
@@ -20,7 +19,7 @@ pub push-requires : goal.push-requires
 push-requires c =
     let w = c.laws.ensures.rows in
     let k = c.requires.kept in
-    let less = one-fewer w (state_of c.args.self.now.course) (state_of c.unload.new.self) c.number-processor.result c.unload.ensures.unloads (subst (λ (n : ℕ). c.number-processor.result.0 < n) (sym k.kept.processors) (rw c.number-processor.ensures c.requires.token.is_processor)) in
+    let less = one-fewer w (state_of c.args.self.now.course) (state_of c.unload.new.self) c.number-processor.result c.unload.ensures.unloads (subst (λ (n : ℕ). c.number-processor.result.0 < n) (sym k.kept.processors) (rw c.number-processor.ensures c.requires.may.notes.is_processor)) in
     let room = k.unloads in
     omega (arith, less, room)
 
@@ -35,10 +34,10 @@ returns-clause-kept c =
     let w = c.laws.ensures.rows in
     let row = c.unload.ensures.unloads in
     let v' = c.laws.ensures.takes in
-    let leaves = unload-leaves s t p c.unload.ensures.unloads refl k.kept.nothing_due in
-    let there : p.0 < length s.processors = subst (λ (n : ℕ). p.0 < n) (sym k.kept.processors) (rw c.number-processor.ensures c.requires.token.is_processor) in
-    let kept = kept-one w old.start s t old.journal.entries old.seat.notes (Unload p) n k.kept leaves there refl tt (record { steps = λ v e. absurd (never e) }) (λ r. swapped r p.0 None (processor s r).loaded) in
-    let less = one-fewer w s t p c.unload.ensures.unloads (subst (λ (n : ℕ). p.0 < n) (sym k.kept.processors) (rw c.number-processor.ensures c.requires.token.is_processor)) in
+    let leaves = unload-leaves s t p c.unload.ensures.unloads k.kept.nothing_due in
+    let there : p.0 < length s.processors = subst (λ (n : ℕ). p.0 < n) (sym k.kept.processors) (rw c.number-processor.ensures c.requires.may.notes.is_processor) in
+    let kept = kept-one w c.laws.ensures.runs old.start s t old.journal.entries old.seat.notes (Unload p) n k.kept leaves refl there in
+    let less = one-fewer w s t p c.unload.ensures.unloads (subst (λ (n : ℕ). p.0 < n) (sym k.kept.processors) (rw c.number-processor.ensures c.requires.may.notes.is_processor)) in
     let room = k.unloads in
     record {
       sound = c.unload.ensures.sound;
@@ -55,14 +54,20 @@ returns-clause-kept c =
       posted = subst (λ (j : List Event). Posted t j old.wiring.passes) (sym c.push.ensures.entries) (posted-same v' s t old.journal.entries (Unload p ∷ []) old.wiring.passes k.posted (quiet-unload s t p.0 row)
           (ap (λ (x : GuestState). x.devices.sent) row.after) (ap (λ (x : GuestState). x.sent_from) row.after) (w.around s t (Unload p) row) (quiet-one s (Unload p) refl (λ x. tt)));
     }
-  where
-    never : false ≡ true → ⊥
-    never e = cc
 
 pub returns-clause-room : goal.returns-clause-room
 returns-clause-room c =
     let w = c.laws.ensures.rows in
     let k = c.requires.kept in
-    let less = one-fewer w (state_of c.args.self.now.course) (state_of c.unload.new.self) c.number-processor.result c.unload.ensures.unloads (subst (λ (n : ℕ). c.number-processor.result.0 < n) (sym k.kept.processors) (rw c.number-processor.ensures c.requires.token.is_processor)) in
+    let less = one-fewer w (state_of c.args.self.now.course) (state_of c.unload.new.self) c.number-processor.result c.unload.ensures.unloads (subst (λ (n : ℕ). c.number-processor.result.0 < n) (sym k.kept.processors) (rw c.number-processor.ensures c.requires.may.notes.is_processor)) in
     let c' = c.unload.ensures in
     rw (c'.print_room, c'.send_room, c'.cells, c'.packets.received) (same-room _ _ _ _ _ (omega (arith, less, c.push.ensures.room)))
+
+pub returns-clause-leaves : goal.returns-clause-leaves
+returns-clause-leaves c =
+    let room = returns-clause-room c in
+    record {
+      learns = record { seat = search rules; token_is = search rules };
+      same = record { number = refl; start = refl; board = ap (λ (x : Seat). x.board) c.note.ensures.seat; table = refl; wires = refl; own = refl };
+      room = omega (arith, room);
+    }

@@ -20,7 +20,7 @@ turn-requires-after_bounds g c κs within =
           i.4,
           (
             λ e. c.requires.loaded (ap (shown g.row.G) (sym same) ∙ sym (shown-paused start g.row.G c.loop-turn.burst c.loop-turn.token i.0 paused) ∙ e),
-            (c.requires.table, c.requires.wires),
+            c.requires.shared,
           ),
         ),
       ),

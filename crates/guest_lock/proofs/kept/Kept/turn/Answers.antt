@@ -14,4 +14,4 @@ returns-clause-in_step g c =
     let number : was.number ≡ c.args.self.now.guest.number = search rules in
     let token = c.args.token.now in
     let before : AreInStep token was = ap (λ n. with_side n token.notes) number ∙ c.requires.in_step ∙ ap (with_side token.number) (sym notes) in
-    in_step-learns was token (told_of_turn (processor_of token) (loaded_on was token) c.turn.result) c.turn.new.self c.turn.new.token c.turn.ensures.learns c.turn.ensures.same.number before
+    in_step-learns was token (told_of_turn (processor_of token) (loaded_on was token) c.turn.result) c.turn.new.self c.turn.new.token c.turn.ensures.leaves.learns c.turn.ensures.leaves.same.number before

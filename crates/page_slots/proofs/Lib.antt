@@ -1,0 +1,12 @@
+pub mod Sums
+pub mod Counting
+pub mod Entries
+pub mod TurnLemmas
+pub mod Moves
+pub mod Matching
+pub mod ClosingLemmas
+pub mod GatheringLemmas
+pub mod TakingLemmas
+pub mod KeptLemmas
+pub mod Accesses
+pub mod MakingLemmas

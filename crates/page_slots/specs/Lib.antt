@@ -1,0 +1,11 @@
+pub mod Histories
+pub mod KeptPages
+pub mod Views
+pub mod PageRule
+pub mod Steps
+pub mod Slots
+pub mod Points
+pub mod Inside
+pub mod Litmus
+pub mod Making
+pub mod Closing

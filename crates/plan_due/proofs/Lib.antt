@@ -1,0 +1,10 @@
+pub mod NoteLists
+pub mod JournalLemmas
+pub mod SliceLemmas
+pub mod CertLemmas
+pub mod ItemLemmas
+pub mod FreeLemmas
+pub mod AskLemmas
+pub mod DueLemmas
+pub mod OrderLemmas
+pub mod WholeLemmas

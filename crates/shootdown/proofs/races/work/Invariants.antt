@@ -1,5 +1,0 @@
-use Rattle.std.proofs.Common.{◌≡◌, ◌+◌, length}
-use Rattle.shootdown.proofs.races.work.Given as goal
-
-abbrev pub invariant-loop-turn : goal.invariant-loop-turn
-invariant-loop-turn g l = (l.token.board ≡ l.initial.token.board) × (length l.token.notes ≡ length l.initial.token.notes + l.turn)
