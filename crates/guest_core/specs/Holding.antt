@@ -1,5 +1,5 @@
 -- The guest's frames, as the guest's holder has them.
-use Rattle.std.specs.Prelude.{◌≡◌, ℕ, ◌*◌, ◌<◌, ◌==◌, ◌&&◌, if◌then◌else◌, Bool, [], Some, count_by, length}
+use Rattle.std.specs.Prelude.{◌≡◌, ℕ, ◌*◌, ◌<◌, ◌≤◌, ◌==◌, ◌&&◌, if◌then◌else◌, Bool, [], Some, count_by, length}
 use Rattle.base_words.specs.declared.events.End.{End}
 use Rattle.frame_words.specs.FrameWords.{frame_word}
 use Rattle.frame_words.specs.Views.{frame_holds, cell_loans, HeldUnder}
@@ -39,9 +39,10 @@ pub record HasFrames (s : GuestState) (view : View) : Type 0 where
 abbrev pub found_times : (ℕ → ℕ → Bool) → Boot → ℕ
 found_times test b = count_by (λ (f : Found). test f.frame f.generation) b.frames
 
--- the holder with which a guest is booted holds each of its frames, under its generation, with a loan for each that lies outside the
+-- No frame is among those of a guest twice; the holder with which it is booted holds each of them, under its generation, with a loan for each that lies outside the
 -- home cell, and nothing else; and the frames are the machine's
 pub record HoldsFor (b : Boot) (view : View) : Type 0 where
+  pub once : (frame : ℕ) → found_times (λ f g. f == frame) b ≤ 1
   pub counted : (frame : ℕ) → frame_holds view frame ≡ found_times (λ f g. f == frame) b
   pub same_generation : (frame generation : ℕ) → 0 < found_times (is_copy frame generation) b → HeldUnder view (frame_word frame) generation
   pub borrowed : (cell : ℕ) → cell < 8 → cell_loans view cell ≡ (if cell == home_cell b.around then 0 else found_times (λ f g. cell_of_frame b.around f == cell) b)

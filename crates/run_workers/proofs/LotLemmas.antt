@@ -1,5 +1,5 @@
 -- The holder of a lot is what a guest of its frames is booted with.
-use Rattle.std.proofs.Common.{◌≡◌, ℕ, zero, suc, ◌+◌, ◌*◌, ◌/◌, ◌<◌, ◌==◌, ◌&&◌, not, cond, if◌then◌else◌, Some, Bool, true, false, List, [], ◌∷◌, ◌++◌, length, map, drop, get_or, refl, sym, ap, ◌∙◌, subst, arith}
+use Rattle.std.proofs.Common.{◌≡◌, ℕ, zero, suc, ◌+◌, ◌*◌, ◌/◌, ◌<◌, ◌≤◌, ◌==◌, ◌&&◌, not, cond, if◌then◌else◌, Some, Bool, true, false, List, [], ◌∷◌, ◌++◌, length, map, drop, get_or, refl, sym, ap, ◌∙◌, subst, arith}
 use Rattle.std.proofs.lemmas.Bool.{eqb-true, and_parts, and_left, and_right, and_from}
 use Rattle.std.proofs.lemmas.List.{length-map}
 use Rattle.std.proofs.lemmas.List.Elements.{All-head, All-tail, All-get_or}
@@ -26,7 +26,7 @@ use Rattle.run_workers.specs.Booting.{IsSite, IsLotOf, left_behind}
 use Rattle.run_workers.specs.Starting.{left_for, IsPlaced}
 use Rattle.node_frames.specs.Places.{cell_of_node}
 use Rattle.boot_frames.specs.Loans.{loans_in, cell_of_frame as frame_cell}
-use Rattle.boot_frames.specs.Lots.{Has, IsNew}
+use Rattle.boot_frames.specs.Lots.{Has, IsNew, times_given}
 use Rattle.boot_frames.specs.Chain.{after_claim, after_claims, frame_at}
 use Rattle.boot_frames.specs.Claims.{cache_claims, page_claim, page_claims}
 use Rattle.boot_frames.specs.Needs.{need_of}
@@ -103,10 +103,11 @@ pub record IsAround (layout : Layout) (home : ℕ) (w : Surroundings) : Type 0 w
   pub cells : (f : Frame) → cell_of_frame w f.number.0 ≡ frame_cell layout f
   pub at_home : home_cell w ≡ home
 
-pub holds-for : (table : MadeTable) (layout : Layout) (home : ℕ) (lot : Lot) (b : Boot) → table.terms.frames ≡ layout.nodes * layout.frames → All (IsNew table.terms) lot.frames → IsHeldLot layout home lot → b.frames ≡ map found_of lot.frames → IsAround layout home b.around → HoldsFor b lot.holder.view
-holds-for table layout home lot b words new is frames around =
+pub holds-for : (table : MadeTable) (layout : Layout) (home : ℕ) (lot : Lot) (b : Boot) → table.terms.frames ≡ layout.nodes * layout.frames → All (IsNew table.terms) lot.frames → IsHeldLot layout home lot → ((frame : ℕ) → frame_times frame lot.frames ≤ 1) → b.frames ≡ map found_of lot.frames → IsAround layout home b.around → HoldsFor b lot.holder.view
+holds-for table layout home lot b words new is once frames around =
     let count : (test : ℕ → ℕ → Bool) → found_times test b ≡ count_by (λ (f : Frame). test f.number.0 f.generation) lot.frames = λ test. ap (count_by (λ (f : Found). test f.frame f.generation)) frames ∙ found-count test lot.frames in
     record {
+      once = λ frame. subst (λ (n : ℕ). n ≤ 1) (times-count frame lot.frames ∙ sym (count (λ f g. f == frame))) (once frame);
       counted = λ frame. is.frames frame ∙ times-count frame lot.frames ∙ sym (count (λ f g. f == frame));
       same_generation = λ frame generation some. λ own has.
           let f = counted-frame (Has lot.holder.view.holds) (is_copy frame generation) lot.frames is.under (subst (λ (n : ℕ). 0 < n) (count (is_copy frame generation)) some) in
@@ -196,6 +197,14 @@ lot-placed machine plan table guest spec lot none empty fresh is = record {
         ap (λ (f : Found). f.generation) (sym was.2) ∙ new ∙ ap (λ (n : ℕ). n + 1) fresh,
       );
 }
+
+-- what is given to some lots and to more is given to the former and to the latter
+times-append : (frame : ℕ) (xs ys : List Lot) → times_given frame (xs ++ ys) ≡ times_given frame xs + times_given frame ys
+times-append frame [] ys = omega arith
+times-append frame (x ∷ xs) ys = let rest = times-append frame xs ys in omega (arith, rest)
+
+pub rest-once : (frame : ℕ) (xs ys : List Lot) → times_given frame (xs ++ ys) ≤ 1 → times_given frame ys ≤ 1
+rest-once frame xs ys few = let both = times-append frame xs ys in omega (arith, both, few)
 
 -- ---- one lot after another
 

@@ -1,5 +1,5 @@
 //! The guests of a description, at their starts.
-ghost use Rattle.std.specs.Prelude.{◌≡◌, ◌*◌, ◌<◌, [], All, IfOk, map, length, Some, slice_get};
+ghost use Rattle.std.specs.Prelude.{◌≡◌, ℕ, ◌*◌, ◌<◌, ◌≤◌, [], All, IfOk, map, length, Some, slice_get};
 ghost use Rattle.run_workers.specs.declared.source.Source.{Source};
 ghost use Rattle.machine_desc.specs.declared.machine.GuestSpec.{GuestSpec};
 ghost use Rattle.machine_desc.specs.Described.{described_seen};
@@ -9,7 +9,8 @@ ghost use Rattle.frame_words.specs.Holders.{IsMade};
 ghost use Rattle.node_frames.specs.Layout.{layout_of};
 ghost use Rattle.node_frames.specs.Left.{first_left};
 ghost use Rattle.boot_frames.specs.Claims.{page_claims};
-ghost use Rattle.boot_frames.specs.Lots.{ServesAll};
+ghost use Rattle.boot_frames.specs.Lots.{ServesAll, times_given};
+ghost use Rattle.frame_words.specs.Splits.{frame_times};
 ghost use Rattle.boot_frames.specs.Needs.{need_of};
 ghost use Rattle.boot_frames.specs.declared.lots.Lot.{Lot};
 ghost use Rattle.run_workers.specs.Starting.{IsBuilt, IsSource, AreSources, AreServed};
@@ -19,7 +20,7 @@ use crate::{Source, SourceList};
 use base_words::{CellList, GuestId, Sequence, Shape};
 use boot_frames::{
     Lot, Shortage, a_lot_holds_its_frames, an_empty_cache_takes_nothing, each_guest_has_its_lot,
-    needs_of, place,
+    needs_of, no_frame_is_given_twice, place,
 };
 use frame_words::{FrameTable, Holder, join};
 use guest_core::Guest;
@@ -103,6 +104,7 @@ fn lots_of(
     requires fresh { table.now.terms.first ≡ 0 }
     requires lends { table.now.terms.lends ≡ machine.now.lends }
     ensures serves { IfOk result (λ lots. ServesAll table.now (layout_of machine.now.shape) (first_left (layout_of machine.now.shape) machine.now.lends) (page_claims 0 (map need_of machine.now.guests)) lots.items) }
+    ensures once { IfOk result (λ lots. (frame : ℕ) → times_given frame lots.items ≤ 1) }
     ensures rest { IfOk result (λ lots. holder.new.view.holds ≡ []) }
     ensures same { holder.new.table ≡ holder.old.table }
 {
@@ -147,6 +149,7 @@ fn boot_one(
     requires built { IsBuilt (described_seen machine.now plan.now) }
     requires there { number < length machine.now.guests }
     requires source { (spec : GuestSpec) → slice_get machine.now.guests number ≡ Some spec → IsSource spec source }
+    requires once { (frame : ℕ) → frame_times frame lot.frames ≤ 1 }
     requires lot { (spec : GuestSpec) → slice_get machine.now.guests number ≡ Some spec → IsLotOf machine.now table.now number spec lot }
     requires fresh { table.now.terms.first ≡ 0 }
     requires seat { IsSeat seat.board number seat }
@@ -190,6 +193,7 @@ fn boot_all(
     requires sources { AreSources machine.now.guests sources }
     requires lots { ServesAll table.now (layout_of machine.now.shape) (first_left (layout_of machine.now.shape) machine.now.lends) (page_claims 0 (map need_of machine.now.guests)) lots.items }
     requires fresh { table.now.terms.first ≡ 0 }
+    requires once { (frame : ℕ) → times_given frame lots.items ≤ 1 }
     requires seats { AreSeats (length sources) seats }
     requires frames { table.now.terms.frames ≡ machine.now.shape.nodes * machine.now.shape.frames }
     requires lends { table.now.terms.lends ≡ machine.now.lends }
@@ -198,6 +202,7 @@ fn boot_all(
     ensures { IfOk result (λ guests. AreBooted (described_seen machine.now plan.now) sources (board_of seats) (record { table = table.now; wires = wires.now }) guests.items) }
 {
     each_guest_has_its_lot();
+    no_frame_is_given_twice();
     let mut seats = seats.into_vec().into_iter();
     let mut lots = lots.into_iter();
     let mut passes = passes.into_vec().into_iter();
@@ -223,16 +228,17 @@ fn boot_all(
 /// What a run begins with: the guests of a description, a token for each of its processors, the table of the guests' frames with its
 /// first holder, which has nothing, and the wires between the guests.
 #[derive(Drop)]
-pub(crate) struct Booted {
-    pub(crate) guests: Vec<Guest>,
-    pub(crate) tokens: TokenList,
-    pub(crate) table: FrameTable,
-    pub(crate) holder: Holder,
-    pub(crate) wires: Wires,
+pub struct Booted {
+    pub guests: Vec<Guest>,
+    pub tokens: TokenList,
+    pub table: FrameTable,
+    pub holder: Holder,
+    pub wires: Wires,
 }
 
-/// The guests of a description, with all that their run begins with.
-pub(crate) fn boot(
+/// The guests of a description, each of its source and on the frames of its lot, with all that their run begins with. An error is want
+/// of memory.
+pub fn boot(
     alloc: Global,
     machine: &Machine,
     plan: &Plan,

@@ -13,5 +13,6 @@ mod source;
 mod tests;
 mod workers;
 
+pub use booting::{Booted, boot};
 pub use running::run;
 pub use source::{Source, SourceList};

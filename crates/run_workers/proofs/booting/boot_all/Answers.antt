@@ -82,6 +82,14 @@ boot_one-requires-clause-lot c = λ spec e.
     let at : slice_get c.args.lots.items c.len-number.result ≡ Some c.in-Some-next-2.lot = next-lot c.args.lots.items _ (length c.loop-source.guests.items) c.in-Some-next-2.lot c.len-number.result number (sym i.6 ∙ c.in-Some-next-2.ensures.cases.0) in
     c.each_guest_has_its_lot.ensures.each c.args.table.now layout left (map need_of machine.guests) c.args.lots.items c.requires.lots c.len-number.result (need_of spec) c.in-Some-next-2.lot (map-get need_of machine.guests c.len-number.result spec e) at
 
+-- no frame is in it twice
+pub boot_one-requires-clause-once : goal.boot_one-requires-clause-once
+boot_one-requires-clause-once c = λ frame.
+    let i = c.loop-source.invariant in
+    let number : c.len-number.result ≡ length c.loop-source.guests.items = search rules in
+    let at : slice_get c.args.lots.items c.len-number.result ≡ Some c.in-Some-next-2.lot = next-lot c.args.lots.items _ (length c.loop-source.guests.items) c.in-Some-next-2.lot c.len-number.result number (sym i.6 ∙ c.in-Some-next-2.ensures.cases.0) in
+    c.no_frame_is_given_twice.ensures.once c.args.lots.items frame (c.requires.once frame) c.len-number.result c.in-Some-next-2.lot at
+
 pub loop-source-preserved : goal.loop-source-preserved
 loop-source-preserved c =
     let i = c.loop-source.invariant in

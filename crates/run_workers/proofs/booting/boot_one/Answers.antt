@@ -50,7 +50,7 @@ boot-requires-clause-holds c =
       under = c.a_lot_holds_its_frames.ensures.under table layout left claim c.args.lot lot;
       loans = c.a_lot_holds_its_frames.ensures.loans table layout left claim c.args.lot lot;
     })
-    refl (is-around machine _ spec c.in_ok-site_of.ensures refl)
+    c.requires.once refl (is-around machine _ spec c.in_ok-site_of.ensures refl)
 
 pub returns : goal.returns
 returns c =

@@ -9,6 +9,7 @@ use Rattle.boot_frames.specs.Claims.{cache_claims, page_claims}
 use Rattle.boot_frames.specs.Lots.{ServesAll}
 use Rattle.boot_frames.specs.Needs.{need_of}
 use Rattle.boot_frames.specs.declared.needs.Need.{Need}
+use Rattle.run_workers.proofs.LotLemmas.{rest-once}
 use Rattle.run_workers.proofs.booting.lots_of.Goals as goal
 
 -- each guest is at home on a node that is there
@@ -42,3 +43,6 @@ returns-in-Ok-clause-serves c =
     ∙ c.an_empty_cache_takes_nothing.ensures.left layout cells (first_left layout table.terms.lends) ∙ ap (first_left layout) c.requires.lends in
     subst (λ (l : Left). ServesAll table layout l (page_claims 0 (map need_of machine.guests)) lots) left
     (subst (λ (ns : List Need). ServesAll table layout (after_claims layout (cache_claims machine.cache 0 cells) (first_left layout table.terms.lends)) (page_claims 0 ns) lots) needs c.in-Ok.ensures.guests)
+
+pub returns-in-Ok-clause-once : goal.returns-in-Ok-clause-once
+returns-in-Ok-clause-once c = λ frame. rest-once frame c.in-Ok.placed.caches.items c.in-Ok.placed.guests.items (c.in-Ok.ensures.apart frame)
