@@ -37,7 +37,6 @@ mod LiveCellProofs
 mod SpreadParts
 mod LawProofs
 mod ExchangeProofs
-mod HoldsProofs
 mod AroundProofs
 mod SpreadProofs
 mod RunProofs
@@ -50,7 +49,6 @@ mod WireProofs
 mod HaltEffects
 mod HaltProofs
 mod LoadedProofs
-mod StartHolds
 mod MovedRun
 mod SharedRun
 mod PolicyRun

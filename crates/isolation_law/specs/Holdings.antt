@@ -1,9 +1,9 @@
 -- Which frames a guest holds, how often and under which generation, and how a page's frames lie.
-use Rattle.std.specs.Prelude.{◌≡◌, ◌<◌, ℕ, ◌==◌, if◌then◌else◌, Bool, List, [], ◌∷◌, ◌++◌, map, length, count_by, Option, Some, None, slice_index}
+use Rattle.std.specs.Prelude.{ℕ, ◌==◌, if◌then◌else◌, Bool, List, [], ◌∷◌, ◌++◌, map, count_by, Option, Some, None}
 use Rattle.isolation_law.specs.Surroundings.{Surroundings, home_cell}
 use Rattle.private_machine.specs.Backing.{Copy, Change, Migrates, Replicates, Collapses, Breaks, TakesShared, GivesShared, Move, Page, copies, node_of_frame}
 use Rattle.base_words.specs.Membership.{Has}
-use Rattle.isolation_law.specs.GuestState.{GuestState, page}
+use Rattle.isolation_law.specs.GuestState.{GuestState}
 use Rattle.isolation_law.specs.CellUse.{held, lies_in}
 
 -- the numbers are all different
@@ -36,16 +36,3 @@ holds s frame = count_by (is_frame frame) (held s)
 
 abbrev pub loans : GuestState → ℕ → ℕ
 loans s cell = if cell == home_cell s.around then 0 else count_by (lies_in s.around cell) (held s)
-
--- The guest against its holder's view: how often it holds each frame, under which generation, and its loans of each cell.
-pub record Holds (s : GuestState) (counts generations lent : List ℕ) : Type 0 where
-  pub counted : (frame : ℕ) → frame < length counts → slice_index counts frame ≡ holds s frame
-  pub same_generation : (c : Copy) → Has (held s) c → slice_index generations c.frame ≡ c.generation
-  pub borrowed : (cell : ℕ) → cell < length lent → slice_index lent cell ≡ loans s cell
-  pub spread : (q : ℕ) → q < length s.pages → AllDifferent (nodes_of s.around (page s q))
-
--- A page that is sent whole goes as its master's frame, under the generation of its master.
-pub record Carries (s : GuestState) (q frame generation : ℕ) : Type 0 where
-  pub is_page : q < length s.pages
-  pub frame_is : frame ≡ (page s q).master.frame
-  pub generation_is : generation ≡ (page s q).master.generation

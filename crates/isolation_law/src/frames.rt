@@ -1,10 +1,9 @@
 //! Which frames a guest holds, how often, under which generation and on which nodes.
-ghost use Rattle.std.specs.Prelude.{◌≡◌, ◌<◌, ℕ, List, [], ◌∷◌, length, slice_index};
+ghost use Rattle.std.specs.Prelude.{◌<◌, ℕ, List, [], ◌∷◌, length};
 ghost use Rattle.base_words.specs.declared.events.End.{End};
 ghost use Rattle.base_words.specs.declared.events.Event.{Event};
 ghost use Rattle.base_words.specs.declared.moves.By.{By};
 ghost use Rattle.base_words.specs.declared.moves.MoveKind.{MoveKind};
-ghost use Rattle.private_machine.specs.Backing.{Copy};
 ghost use Rattle.isolation_law.specs.GuestState.{GuestState, page};
 ghost use Rattle.isolation_law.specs.CellUse.{held, used_frames};
 ghost use Rattle.isolation_law.specs.LoadRows.{Loads, Unloads, Acks};
@@ -15,20 +14,15 @@ ghost use Rattle.isolation_law.specs.SkipRow.{Skips};
 ghost use Rattle.isolation_law.specs.PacketRows.{ComesToHand, Receives, EndsDelivery, Discards};
 ghost use Rattle.isolation_law.specs.EndRows.{CellFailsIn, LetsGo, Ends};
 ghost use Rattle.isolation_law.specs.Run.{Run};
-ghost use Rattle.isolation_law.specs.Holdings.{Holds, Carries, AllDifferent, nodes_of};
+ghost use Rattle.isolation_law.specs.Holdings.{AllDifferent, nodes_of};
 ghost use Rattle.private_machine.specs.PageMove.{gained, dropped, dropped_taken};
-ghost use Rattle.isolation_law.specs.Exchange.{Exchanged, ViewChanges, BootView};
+ghost use Rattle.isolation_law.specs.Exchange.{Exchanged};
 ghost use Rattle.isolation_law.specs.UseChange.{UseChanged, joining, leaving, leaving_taken};
 ghost use Rattle.isolation_law.specs.Start.{Boot, IsBoot, start};
 
 /// Wherever a journal leads from a guest's start, a page's frames lie on different nodes.
 pub fn frames_spread()
     ensures { (b : Boot) (journal : List Event) (t : GuestState) → IsBoot b → Run (start b) journal t → (q : ℕ) → q < length t.pages → AllDifferent (nodes_of t.around (page t q)) }
-{}
-
-/// At its start a guest's view has each frame that it was booted with, once for each page.
-pub fn starts_held()
-    ensures { (b : Boot) (counts generations lent : List ℕ) → BootView b counts generations lent → Holds (start b) counts generations lent }
 {}
 
 /// Which frames a guest comes to hold and lets go of, by each kind of entry and where a packet comes to hand.
@@ -71,12 +65,4 @@ pub fn uses_change()
     ensures skips { (s t : GuestState) (k : ℕ) → Skips s k t → UseChanged s t [] [] }
     ensures fails { (s t : GuestState) (c : ℕ) → CellFailsIn s c t → UseChanged s t [] [] }
     ensures ends { (s t : GuestState) (end : End) → Ends s end t → UseChanged s t [] (used_frames s) }
-{}
-
-/// A view that changes by the frames that are gained and dropped is the guest's view again; and a page that is sent whole goes as
-/// a frame that is held, under the generation of the view.
-pub fn holdings()
-    ensures kept { (s t : GuestState) (more less : List Copy) (a b c a' b' c' : List ℕ) → Holds s a b c → t.around ≡ s.around → Exchanged s t more less → ViewChanges s t more less a b c a' b' c' → ((q : ℕ) → q < length t.pages → AllDifferent (nodes_of t.around (page t q))) → Holds t a' b' c' }
-    ensures carried { (s : GuestState) (q frame generation : ℕ) (a b c : List ℕ) → Holds s a b c → Carries s q frame generation → slice_index b frame ≡ generation }
-    ensures counted { (s : GuestState) (q frame generation : ℕ) (a b c : List ℕ) → Holds s a b c → Carries s q frame generation → frame < length a → 0 < slice_index a frame }
 {}

@@ -10,7 +10,7 @@ mod told;
 mod wires;
 
 pub use cells::{cell_failure, ends_by_use, failures_stay, goes_on_alive};
-pub use frames::{exchanges, frames_spread, holdings, starts_held, uses_change};
+pub use frames::{exchanges, frames_spread, uses_change};
 pub use law::{halts_stay, isolation, isolation_from, start_holds, worlds};
 pub use rows::{
     dues_fit, halves_serve, hand_keeps, lost_is_replica, pages_seen, read_only_needs,
