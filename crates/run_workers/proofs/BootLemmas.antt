@@ -24,7 +24,8 @@ use Rattle.std.proofs.Math.Nat.{mul-le-mul_left, mul-le-mul_right}
 use Rattle.guest_core.specs.GuestView.{Monitored, Shared, IsAtStart}
 use Rattle.guest_core.specs.Holding.{FitsAround}
 use Rattle.guest_core.specs.Starting.{MayStart, booted_with}
-use Rattle.run_workers.specs.Starting.{IsBuilt, IsSource, AreSources, IsPlaced, IsStart, around_of}
+use Rattle.unbuilt_keys.specs.Built.{IsBuilt}
+use Rattle.run_workers.specs.Starting.{IsSource, AreSources, IsPlaced, IsStart, around_of}
 use Rattle.run_workers.specs.Booting.{home_in, IsSite, IsSeat, board_of, AreSeats, IsStarted, AreBooted, AreWires, HasPasses, HaveAllPasses}
 use Rattle.wire_queue.specs.Between.{Made}
 use Rattle.wire_queue.specs.PassLists.{IsListOf, IsUnused}

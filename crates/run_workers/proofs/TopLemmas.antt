@@ -23,7 +23,9 @@ use Rattle.wire_queue.specs.Closing.{AreInOrder}
 use Rattle.wire_queue.specs.declared.lists.PassList.{PassList}
 use Rattle.guest_core.specs.GuestView.{Monitored, Shared}
 use Rattle.guest_core.specs.declared.records.RunRecord.{RunRecord}
-use Rattle.run_workers.specs.Starting.{is_run, IsBuilt, around_of, IsStart, AreStarts}
+use Rattle.unbuilt_keys.specs.Unbuilt.{is_run}
+use Rattle.unbuilt_keys.specs.Built.{IsBuilt}
+use Rattle.run_workers.specs.Starting.{around_of, IsStart, AreStarts}
 use Rattle.run_workers.specs.WholeRecord.{IsWhole}
 use Rattle.run_workers.specs.Working.{cell_in, ItemFits, IsOn}
 use Rattle.run_workers.specs.Booting.{start_of, IsFresh, IsStarted, AreBooted, HasBooted}

@@ -1,5 +1,5 @@
 -- What the guests of a description are started from.
-use Rattle.std.specs.Prelude.{◌≡◌, ◌<◌, ℕ, suc, List, [], ◌∷◌, ◌++◌, length, map, take, All, Bool, true, false, None, Some, slice_get, slice_index, slice_index_or}
+use Rattle.std.specs.Prelude.{◌≡◌, ◌<◌, ℕ, suc, List, [], ◌∷◌, ◌++◌, length, map, take, None, Some, slice_get, slice_index, slice_index_or}
 use Rattle.base_words.specs.declared.input.InputEntry.{InputEntry}
 use Rattle.node_frames.specs.Layout.{Layout}
 use Rattle.node_frames.specs.Left.{Left, first_left}
@@ -10,24 +10,10 @@ use Rattle.run_workers.specs.declared.source.Source.{Source}
 use Rattle.isolation_law.specs.Surroundings.{Surroundings}
 use Rattle.isolation_law.specs.Start.{Boot, Found}
 use Rattle.machine_desc.specs.declared.machine.GuestSpec.{GuestSpec}
-use Rattle.machine_desc.specs.declared.plan.Item.{Item}
-use Rattle.machine_desc.specs.declared.plan.Item.TheVariants.{Run, Move, Fail}
 use Rattle.machine_desc.specs.Described.{Described}
 use Rattle.private_machine.specs.Disk.{as_given}
 use Rattle.guest_course.specs.BootCalls.{given_blocks}
 use Rattle.guest_core.specs.Starting.{image_of}
-
--- what is built so far: no index of shared blocks, no policy, and no work but runs
-abbrev pub is_run : Item → Bool
-is_run (Run processor guest vcpu steps) = true
-is_run (Move processor guest page kind node) = false
-is_run (Fail processor cell) = false
-
-pub record IsBuilt (d : Described) : Type 0 where
-  pub no_cache : d.cache ≡ 0
-  pub no_migration : d.policy.migrate ≡ 0
-  pub no_replication : d.policy.replicate ≡ 0
-  pub runs : All (λ item. is_run item ≡ true) d.items
 
 -- the machine around a guest: the home cell of a guest is that of its node
 abbrev pub home_of : Described → GuestSpec → ℕ

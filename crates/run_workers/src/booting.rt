@@ -1,5 +1,5 @@
 //! The guests of a description, at their starts.
-ghost use Rattle.std.specs.Prelude.{◌≡◌, ℕ, ◌*◌, ◌<◌, ◌≤◌, [], All, IfOk, map, length, Some, slice_get};
+ghost use Rattle.std.specs.Prelude.{◌≡◌, ℕ, ◌*◌, ◌<◌, ◌≤◌, [], All, IfOk, map, length, None, Some, slice_get};
 ghost use Rattle.run_workers.specs.declared.source.Source.{Source};
 ghost use Rattle.machine_desc.specs.declared.machine.GuestSpec.{GuestSpec};
 ghost use Rattle.machine_desc.specs.Described.{described_seen};
@@ -13,7 +13,8 @@ ghost use Rattle.boot_frames.specs.Lots.{ServesAll, times_given};
 ghost use Rattle.frame_words.specs.Splits.{frame_times};
 ghost use Rattle.boot_frames.specs.Needs.{need_of};
 ghost use Rattle.boot_frames.specs.declared.lots.Lot.{Lot};
-ghost use Rattle.run_workers.specs.Starting.{IsBuilt, IsSource, AreSources, AreServed};
+ghost use Rattle.unbuilt_keys.specs.Unbuilt.{unbuilt};
+ghost use Rattle.run_workers.specs.Starting.{IsSource, AreSources, AreServed};
 ghost use Rattle.run_workers.specs.Booting.{home_in, IsSite, IsSeat, board_of, AreSeats, IsLotOf, IsStarted, AreBooted, HasBooted, AreWires, HasPasses, HaveAllPasses};
 
 use crate::{Source, SourceList};
@@ -28,6 +29,7 @@ use guest_course::{Around, Site};
 use machine_desc::{Machine, Plan};
 use shootdown::{GuestSeat, SeatList, TokenList, tokens};
 use std::alloc::{AllocError, Global};
+use unbuilt_keys::built;
 use wire_queue::{AllPasses, PassList, Wires};
 
 /// A copy of a list.
@@ -96,7 +98,7 @@ fn lots_of(
     holder: &mut Holder,
 ) -> Result<Vec<Lot>, AllocError>
     requires described { IsDescribed machine.now plan.now }
-    requires built { IsBuilt (described_seen machine.now plan.now) }
+    requires built { unbuilt (described_seen machine.now plan.now) ≡ None }
     requires served { AreServed (layout_of machine.now.shape) machine.now.lends machine.now.cache machine.now.guests }
     requires made { IsMade table.now holder.old }
     requires first { holder.old.view ≡ first_view table.now.terms }
@@ -110,6 +112,7 @@ fn lots_of(
 {
     let _ = plan;
     an_empty_cache_takes_nothing();
+    built();
     let needs = needs_of(alloc, machine.guests.as_slice())?;
     let cells = machine.lends.len() as u8;
     let cache = machine.cache;
@@ -146,7 +149,7 @@ fn boot_one(
     passes: PassList,
 ) -> Result<Guest, AllocError>
     requires described { IsDescribed machine.now plan.now }
-    requires built { IsBuilt (described_seen machine.now plan.now) }
+    requires built { unbuilt (described_seen machine.now plan.now) ≡ None }
     requires there { number < length machine.now.guests }
     requires source { (spec : GuestSpec) → slice_get machine.now.guests number ≡ Some spec → IsSource spec source }
     requires once { (frame : ℕ) → frame_times frame lot.frames ≤ 1 }
@@ -161,6 +164,7 @@ fn boot_one(
 {
     a_lot_holds_its_frames();
     an_empty_cache_takes_nothing();
+    built();
     let _ = table;
     let spec = &machine.guests.as_slice()[number];
     let around = Around {
@@ -189,7 +193,7 @@ fn boot_all(
     passes: AllPasses,
 ) -> Result<Vec<Guest>, AllocError>
     requires described { IsDescribed machine.now plan.now }
-    requires built { IsBuilt (described_seen machine.now plan.now) }
+    requires built { unbuilt (described_seen machine.now plan.now) ≡ None }
     requires sources { AreSources machine.now.guests sources }
     requires lots { ServesAll table.now (layout_of machine.now.shape) (first_left (layout_of machine.now.shape) machine.now.lends) (page_claims 0 (map need_of machine.now.guests)) lots.items }
     requires fresh { table.now.terms.first ≡ 0 }
@@ -245,7 +249,7 @@ pub fn boot(
     sources: SourceList,
 ) -> Result<Booted, AllocError>
     requires described { IsDescribed machine.now plan.now }
-    requires built { IsBuilt (described_seen machine.now plan.now) }
+    requires built { unbuilt (described_seen machine.now plan.now) ≡ None }
     requires served { AreServed (layout_of machine.now.shape) machine.now.lends machine.now.cache machine.now.guests }
     requires sources { AreSources machine.now.guests sources }
     ensures booted { IfOk result (λ b. HasBooted (described_seen machine.now plan.now) sources b.guests.items b.tokens (record { table = b.table; wires = b.wires }) b.holder) }

@@ -9,10 +9,8 @@ mod ordering;
 mod running;
 mod serving;
 mod source;
-#[cfg(test)]
-mod tests;
 mod workers;
 
 pub use booting::{Booted, boot};
-pub use running::run;
+pub use running::{Finished, finish, run};
 pub use source::{Source, SourceList};

@@ -1,11 +1,12 @@
 //! A plan's run.
-ghost use Rattle.std.specs.Prelude.{◌≡◌, ◌*◌, [], IfOk, List, map};
+ghost use Rattle.std.specs.Prelude.{◌≡◌, ◌*◌, [], IfOk, List, None, map};
 ghost use Rattle.frame_words.specs.Holders.{IsMade};
 ghost use Rattle.node_frames.specs.Layout.{layout_of};
 ghost use Rattle.isolation_law.specs.Start.{Boot};
 ghost use Rattle.machine_desc.specs.Described.{described_seen};
 ghost use Rattle.machine_desc.specs.Accepted.{IsDescribed};
-ghost use Rattle.run_workers.specs.Starting.{IsBuilt, AreSources, AreStarts, AreServed};
+ghost use Rattle.unbuilt_keys.specs.Unbuilt.{unbuilt};
+ghost use Rattle.run_workers.specs.Starting.{AreSources, AreStarts, AreServed};
 ghost use Rattle.run_workers.specs.WholeRecord.{IsWhole};
 ghost use Rattle.run_workers.specs.Booting.{start_of};
 ghost use Rattle.wire_queue.specs.PassLists.{AreAllOf};
@@ -28,6 +29,7 @@ use std::alloc::{AllocError, Global};
 use std::marker::Brand;
 use std::sync::Wait;
 use std::thread::Threads;
+use unbuilt_keys::built;
 use wire_queue::{AllPasses, Wires};
 
 /// The run that is named by its guests' starts, by its tokens' board, and by what its guests share. The first holder is left with nothing,
@@ -75,16 +77,16 @@ fn run_named<N: Starts + Send + Sync, R: Threads + Wait + Sync, G: Gate>(
 /// What a run leaves: its record, the table of the guests' frames with its first holder, which has nothing, and the wires between the
 /// guests with all ends of theirs.
 #[derive(Drop)]
-pub(crate) struct Finished {
-    pub(crate) record: RunRecord,
-    pub(crate) table: FrameTable,
-    pub(crate) holder: Holder,
-    pub(crate) wires: Wires,
-    pub(crate) passes: AllPasses,
+pub struct Finished {
+    pub record: RunRecord,
+    pub table: FrameTable,
+    pub holder: Holder,
+    pub wires: Wires,
+    pub passes: AllPasses,
 }
 
-/// Starts the guests and carries the plan out.
-pub(crate) fn finish<R: Threads + Wait + Sync, G: Gate>(
+/// Starts the guests and carries the plan out, and hands out what the run leaves. An error is want of memory.
+pub fn finish<R: Threads + Wait + Sync, G: Gate>(
     rt: &R,
     alloc: Global,
     machine: &Machine,
@@ -93,7 +95,7 @@ pub(crate) fn finish<R: Threads + Wait + Sync, G: Gate>(
     gate: &G,
 ) -> Result<Finished, AllocError>
     requires described { IsDescribed machine.now plan.now }
-    requires built { IsBuilt (described_seen machine.now plan.now) }
+    requires built { unbuilt (described_seen machine.now plan.now) ≡ None }
     requires sources { AreSources machine.now.guests sources }
     requires served { AreServed (layout_of machine.now.shape) machine.now.lends machine.now.cache machine.now.guests }
     ensures run { IfOk result (λ f. (boots : List Boot) × AreStarts (described_seen machine.now plan.now) 0 machine.now.guests sources plan.now.input boots × IsRunOf boots plan.now.items f.wires f.record f.passes) }
@@ -103,6 +105,7 @@ pub(crate) fn finish<R: Threads + Wait + Sync, G: Gate>(
     ensures frames { IfOk result (λ f. f.table.terms.frames ≡ machine.now.shape.nodes * machine.now.shape.frames) }
     ensures lends { IfOk result (λ f. f.table.terms.lends ≡ machine.now.lends) }
 {
+    built();
     let mut booted = boot(alloc, machine, plan, sources)?;
     let (record, passes) = run_named::<Brand, R, G>(
         rt,
@@ -134,7 +137,7 @@ pub fn run<R: Threads + Wait + Sync, G: Gate>(
     gate: &G,
 ) -> Result<RunRecord, AllocError>
     requires described { IsDescribed machine.now plan.now }
-    requires built { IsBuilt (described_seen machine.now plan.now) }
+    requires built { unbuilt (described_seen machine.now plan.now) ≡ None }
     requires sources { AreSources machine.now.guests sources }
     requires served { AreServed (layout_of machine.now.shape) machine.now.lends machine.now.cache machine.now.guests }
     ensures { IfOk result (λ out. (boots : List Boot) × AreStarts (described_seen machine.now plan.now) 0 machine.now.guests sources plan.now.input boots × IsWhole (described_seen machine.now plan.now) boots out) }

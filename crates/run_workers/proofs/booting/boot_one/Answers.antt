@@ -24,7 +24,7 @@ boot-requires-clause-may c =
     let at : slice_get machine.guests c.args.number ≡ Some spec = there.1 ∙ ap Some same in
     let guest : IsGuest machine.shape.nodes spec = all-get (IsGuest machine.shape.nodes) machine.guests c.args.number spec c.requires.described.guests at in
     let backed : length c.args.lot.frames ≡ length c.args.source.image.pages = (c.requires.lot spec at).taken.count ∙ sym (c.requires.source spec at).pages in
-    may-start machine c.args.plan.now _ c.args.source spec spec.vcpus c.args.lot.frames c.requires.described c.requires.built c.in_ok-site_of.ensures guest (c.requires.source spec at) refl refl backed
+    may-start machine c.args.plan.now _ c.args.source spec spec.vcpus c.args.lot.frames c.requires.described (c.built.ensures _ c.requires.built) c.in_ok-site_of.ensures guest (c.requires.source spec at) refl refl backed
 
 -- its ends of the wires
 pub boot-requires-clause-wired : goal.boot-requires-clause-wired
@@ -69,6 +69,6 @@ returns c =
     let same-input : typed.0 ≡ input = sym (get-index plan.input c.args.number typed.0 input typed.1).1 ∙ ap (λ (l : List (List InputEntry)). slice_index_or l c.args.number input) (sym c.as_slice-2.ensures) ∙ is-input in
     let at-input : slice_get plan.input c.args.number ≡ Some input = typed.1 ∙ ap Some same-input in
     let lot = c.requires.lot spec at in
-    let placed = lot-placed machine plan c.args.table.now c.args.number spec c.args.lot c.requires.built.no_cache c.an_empty_cache_takes_nothing.ensures.left c.requires.fresh lot in
+    let placed = lot-placed machine plan c.args.table.now c.args.number spec c.args.lot (c.built.ensures _ c.requires.built).no_cache c.an_empty_cache_takes_nothing.ensures.left c.requires.fresh lot in
     let fits = fits-around c.args.table.now machine plan _ spec c.requires.described c.requires.frames c.requires.lends c.in_ok-site_of.ensures refl in
     on-ok _ _ c.boot.result (λ guest starts. started machine plan _ c.args.source spec c.args.lot.frames input c.args.seat (record { table = c.args.table.now; wires = c.args.wires.now }) c.args.passes c.args.lot.holder.table c.args.number guest c.in_ok-site_of.ensures refl refl at at-input placed c.requires.seat.number_is starts lot.made fits c.requires.passes.guest_is) c.boot.ensures

@@ -28,7 +28,7 @@ join_caches-requires-clause-empty c =
     let left = first_left layout table.terms.lends in
     let cells = c.len-cells.result in
     c.an_empty_cache_takes_nothing.ensures.lots table layout left cells c.in-Ok.placed.caches.items
-    (subst (λ (cache : ℕ). ServesAll table layout left (cache_claims cache 0 cells) c.in-Ok.placed.caches.items) c.requires.built.no_cache c.in-Ok.ensures.caches)
+    (subst (λ (cache : ℕ). ServesAll table layout left (cache_claims cache 0 cells) c.in-Ok.placed.caches.items) (c.built.ensures _ c.requires.built).no_cache c.in-Ok.ensures.caches)
 
 -- and leave all to the guests
 pub returns-in-Ok-clause-serves : goal.returns-in-Ok-clause-serves
@@ -39,7 +39,7 @@ returns-in-Ok-clause-serves c =
     let cells = c.len-cells.result in
     let lots = c.in-Ok.placed.guests.items in
     let needs = c.as_slice-2.ensures.value ∙ c.in_ok-needs.ensures.needs ∙ ap (λ (l : List GuestSpec). map need_of l) c.as_slice.ensures in
-    let left = ap (λ (cache : ℕ). after_claims layout (cache_claims cache 0 cells) (first_left layout table.terms.lends)) c.requires.built.no_cache
+    let left = ap (λ (cache : ℕ). after_claims layout (cache_claims cache 0 cells) (first_left layout table.terms.lends)) (c.built.ensures _ c.requires.built).no_cache
     ∙ c.an_empty_cache_takes_nothing.ensures.left layout cells (first_left layout table.terms.lends) ∙ ap (first_left layout) c.requires.lends in
     subst (λ (l : Left). ServesAll table layout l (page_claims 0 (map need_of machine.guests)) lots) left
     (subst (λ (ns : List Need). ServesAll table layout (after_claims layout (cache_claims machine.cache 0 cells) (first_left layout table.terms.lends)) (page_claims 0 ns) lots) needs c.in-Ok.ensures.guests)

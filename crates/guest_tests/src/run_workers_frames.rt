@@ -1,23 +1,15 @@
 //! A whole run, and what it leaves of the machine's frames.
-ghost use Rattle.std.specs.Prelude.{◌≡◌, ◌<◌, IfOk, length};
+ghost use Rattle.std.specs.Prelude.{◌≡◌, ◌<◌, length};
 ghost use Rattle.std.specs.Bool.{OnTrue};
 ghost use Rattle.frame_words.specs.Holders.{IsMade};
-ghost use Rattle.node_frames.specs.Layout.{layout_of};
-ghost use Rattle.machine_desc.specs.declared.machine.GuestSpec.{GuestSpec};
-ghost use Rattle.machine_desc.specs.Described.{described_seen};
-ghost use Rattle.machine_desc.specs.Accepted.{IsDescribed};
-ghost use Rattle.run_workers.specs.Starting.{is_run as runs, IsBuilt, IsSource, AreSources, AreServed};
 
-use crate::running::finish;
-use crate::{Source, SourceList};
+use crate::booting::described;
 use base_words::{CellId, End, FrameNo};
-use boot_frames::{admit, needs_of};
-use cow_disk::Disk;
-use elf_image::load_raw;
 use frame_words::{Borrow, FrameTable, Holder, Took, borrow, take};
-use machine_desc::{GuestSpec, Item, Machine, Plan, read};
+use machine_desc::Machine;
 use outside_io::FreeGate;
-use std::alloc::{AllocError, Global};
+use run_workers::finish;
+use std::alloc::AllocError;
 use std::test::Fail;
 
 /// Two guests of three pages each, at home on a node of four frames. The other node has four more, of which its cell lends two. The
@@ -60,76 +52,13 @@ steps = 3
 "#;
 
 /// Prints A and halts: LUI 1, CFFF; ORI 1, 1, F000; ADDIU 2, 0, 41; SW 2, 0(1); SW 2, 4(1).
-const PRINTS_A: [u8; 20] = [
-    0x3C, 0x01, 0xCF, 0xFF, 0x34, 0x21, 0xF0, 0x00, 0x24, 0x02, 0x00, 0x41, 0xAC, 0x22, 0x00, 0x00,
-    0xAC, 0x22, 0x00, 0x04,
+const PRINTS_A: [u32; 5] = [
+    0x3C01_CFFF,
+    0x3421_F000,
+    0x2402_0041,
+    0xAC22_0000,
+    0xAC22_0004,
 ];
-
-fn description(alloc: Global, text: &str) -> Result<(Machine, Plan), AllocError>
-    ensures { IfOk result (λ both. IsDescribed both.0 both.1) }
-{
-    match read(alloc, text.as_bytes()) {
-        Ok(both) => Ok(both),
-        Err(_) => Err(AllocError),
-    }
-}
-
-fn is_run(item: &Item) -> bool
-    ensures { result ≡ runs item.now }
-{
-    match item {
-        Item::Run { .. } => true,
-        _ => false,
-    }
-}
-
-fn is_built(machine: &Machine, plan: &Plan) -> bool
-    ensures { OnTrue result (IsBuilt (described_seen machine.now plan.now)) }
-{
-    if machine.cache != 0 || machine.policy.migrate != 0 || machine.policy.replicate != 0 {
-        return false;
-    }
-    plan.items.as_slice().iter().all(|item| is_run(item))
-}
-
-fn is_served(alloc: Global, machine: &Machine, plan: &Plan) -> Result<bool, AllocError>
-    requires { IsDescribed machine.now plan.now }
-    ensures { IfOk result (λ served. OnTrue served (AreServed (layout_of machine.now.shape) machine.now.lends machine.now.cache machine.now.guests)) }
-{
-    let _ = plan;
-    let needs = needs_of(alloc, machine.guests.as_slice())?;
-    let lends = machine.lends.as_slice();
-    let served = admit(
-        alloc,
-        &machine.shape,
-        lends,
-        machine.cache,
-        needs.as_slice(),
-    );
-    Ok(served.is_ok())
-}
-
-fn source(alloc: Global, spec: &GuestSpec) -> Result<Source, AllocError>
-    ensures { IfOk result (IsSource spec.now) }
-{
-    match load_raw(alloc, &PRINTS_A, spec.pages) {
-        Ok(image) => Ok(Source {
-            image,
-            disk: Disk::new(alloc, None),
-        }),
-        Err(_) => Err(AllocError),
-    }
-}
-
-fn sources(alloc: Global, guests: &[GuestSpec]) -> Result<SourceList, AllocError>
-    ensures { IfOk result (AreSources guests.now) }
-{
-    let [first, second] = guests else {
-        return Err(AllocError);
-    };
-    let both = vec![in alloc; source(alloc, first)?, source(alloc, second)?]?;
-    Ok(SourceList::from_vec(both))
-}
 
 /// Whether the machine has two nodes of four frames and two cells.
 fn is_small(machine: &Machine) -> bool
@@ -152,12 +81,8 @@ fn all_frames_and_loans_are_free_once_guests_have_ended_one_by_one(
     rt: HostRuntime,
 ) -> Result<(), Fail> {
     let alloc = rt.alloc();
-    let (machine, plan) = description(alloc, TWO_GUESTS)?;
+    let (machine, plan, sources) = described(alloc, TWO_GUESTS, &PRINTS_A, &PRINTS_A)?;
     assert!(rt; is_small(&machine), "the machine is as described");
-    assert!(rt; is_built(&machine, &plan), "all of it is built");
-    let served = is_served(alloc, &machine, &plan)?;
-    assert!(rt; served, "the guests get their frames");
-    let sources = sources(alloc, machine.guests.as_slice())?;
     let mut done = finish(&rt, alloc, &machine, &plan, sources, &FreeGate)?;
     let ends = match done.record.guests.as_slice() {
         [first, second] => (first.end, second.end),

@@ -1,0 +1,14 @@
+//! What isn't built yet.
+
+/// What a description may ask for, and isn't built yet. The number is that of a piece of work.
+#[derive(Clone, Copy, Debug, PartialEq, Eq)]
+pub enum UnbuiltKey {
+    /// An index of shared blocks.
+    Cache,
+    /// Migration by the policy.
+    Migrate,
+    /// Replication by the policy.
+    Replicate,
+    /// Work that is no run.
+    Act(usize),
+}

@@ -1,0 +1,10 @@
+//! What a description without such a key has.
+ghost use Rattle.std.specs.Prelude.{◌≡◌, None};
+ghost use Rattle.machine_desc.specs.Described.{Described};
+ghost use Rattle.unbuilt_keys.specs.Unbuilt.{unbuilt};
+ghost use Rattle.unbuilt_keys.specs.Built.{IsBuilt};
+
+/// Where no key is found, there is no index of shared blocks, no policy, and no work but runs.
+pub fn built()
+    ensures { (d : Described) → unbuilt d ≡ None → IsBuilt d }
+{}
