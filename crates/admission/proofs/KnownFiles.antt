@@ -4,10 +4,10 @@ use Rattle.machine_desc.specs.declared.machine.GuestSpec.{GuestSpec}
 use Rattle.machine_desc.specs.Described.{description_of}
 use Rattle.admission.specs.declared.faults.Fault.{Fault}
 use Rattle.admission.specs.declared.faults.Fault.TheVariants.{Read, Long}
-use Rattle.admission.specs.Words.{Form, Raw, Machine, Private, form_of}
-use Rattle.admission.specs.Chain.{Files, ◌>>=◌, known_form, fitting, content, of_description, longest_description, longest_image, longest_disk}
+use Rattle.admission.specs.Words.{Form, Raw, Machine, Private, Litmus, form_of}
+use Rattle.admission.specs.Chain.{Files, ◌>>=◌, known_form, fitting, content, of_description, longest_description, longest_litmus, longest_image, longest_disk}
 use Rattle.admission.specs.Starts.{Start, guest_image, of_guest, image_at, disk_at, blocks_of, start_at, starts_from}
-use Rattle.admission.specs.Jobs.{checked, guests_of, described_job, raw_checked, raw_job, job_by, job_of}
+use Rattle.admission.specs.Jobs.{Job, Litmus as LitmusJob, checked, guests_of, described_job, raw_checked, raw_job, litmus_job, job_by, job_of}
 use Rattle.admission.specs.Steady.{Extends, NeverReads, IsSteady}
 
 -- a stage that asks for no file
@@ -92,10 +92,15 @@ steady-described alone name =
 steady-raw : (name : List ℕ) (steps : ℕ) → IsSteady (λ files. raw_job files name steps)
 steady-raw name steps = steady-then (λ files. content files name longest_image) (λ files bytes. raw_checked steps bytes) (steady-content name longest_image) (λ bytes. steady-without (raw_checked steps bytes))
 
+steady-litmus : (name : List ℕ) → IsSteady (λ files. litmus_job files name)
+steady-litmus name =
+    steady-then (λ files. content files name longest_litmus) (λ files bytes. let r : Result Job Fault = Ok (LitmusJob bytes) in r) (steady-content name longest_litmus) (λ bytes. steady-without (Ok (LitmusJob bytes)))
+
 steady-form : (form : Form) → IsSteady (λ files. job_by files form)
 steady-form (Raw file steps) = steady-raw file steps
 steady-form (Machine file) = steady-described false file
 steady-form (Private file) = steady-described true file
+steady-form (Litmus file) = steady-litmus file
 
 pub steady-job : (words : List (List ℕ)) → IsSteady (λ files. job_of words files)
 steady-job words = steady-then (λ files. known_form (form_of words)) job_by (steady-without (known_form (form_of words))) steady-form

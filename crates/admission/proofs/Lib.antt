@@ -1,4 +1,3 @@
-pub mod KeyLemmas
 pub mod Digits
 pub mod FormLemmas
 pub mod StageLemmas

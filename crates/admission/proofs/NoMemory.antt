@@ -15,14 +15,14 @@ use Rattle.machine_desc.specs.declared.machine.GuestSpec.{GuestSpec}
 use Rattle.machine_desc.specs.Described.{Described, description_of}
 use Rattle.admission.specs.declared.faults.Fault.{Fault}
 use Rattle.admission.specs.declared.faults.Fault.TheVariants.{Words, Read, Long, Description, BadImage, Unbuilt, CacheAdmission, Admission}
-use Rattle.admission.specs.declared.faults.UnbuiltKey.{UnbuiltKey}
-use Rattle.admission.specs.Words.{Form, Raw, Machine, Private, form_of}
+use Rattle.unbuilt_keys.specs.declared.key.UnbuiltKey.{UnbuiltKey}
+use Rattle.admission.specs.Words.{Form, Raw, Machine, Private, Litmus, form_of}
 use Rattle.boot_frames.specs.declared.answers.Shortage.{Shortage}
 use Rattle.boot_frames.specs.declared.answers.Shortage.TheVariants.{Memory, Cell, Guest}
-use Rattle.admission.specs.Chain.{Files, ◌>>=◌, known_form, fitting, content, of_description, longest_description, longest_image, longest_disk}
+use Rattle.admission.specs.Chain.{Files, ◌>>=◌, known_form, fitting, content, of_description, longest_description, longest_litmus, longest_image, longest_disk}
 use Rattle.admission.specs.Starts.{Start, unless, raw_image, elf_image, guest_image, of_guest, image_at, disk_at, start_at, starts_from}
-use Rattle.admission.specs.Unbuilt.{unbuilt, refused_key}
-use Rattle.admission.specs.Jobs.{short_in, served, checks, checked, described_job, raw_job, job_by, job_of}
+use Rattle.unbuilt_keys.specs.Unbuilt.{unbuilt}
+use Rattle.admission.specs.Jobs.{refused_key, short_in, served, checks, checked, described_job, raw_job, litmus_job, job_by, job_of}
 use Rattle.admission.specs.Tells.{Tells, DescriptionsTell}
 
 -- ---- images
@@ -211,10 +211,14 @@ raw_job-tells files name steps =
     then-tells (content files name longest_image) _ (content-tells files name longest_image) λ bytes.
     then-tells (of_guest 0 (raw_image bytes 16)) _ (unless-tells 0 (raw_fault bytes 16) _ (raw_fault-tells bytes 16)) (λ image. tt)
 
+litmus_job-tells : (files : Files) (name : List ℕ) → AlwaysTells (litmus_job files name)
+litmus_job-tells files name = then-tells (content files name longest_litmus) _ (content-tells files name longest_litmus) (λ bytes. tt)
+
 job_by-tells : DescriptionsTell → (files : Files) (form : Form) → AlwaysTells (job_by files form)
 job_by-tells tell files (Raw file steps) = raw_job-tells files file steps
 job_by-tells tell files (Machine file) = described_job-tells tell false files file
 job_by-tells tell files (Private file) = described_job-tells tell true files file
+job_by-tells tell files (Litmus file) = litmus_job-tells files file
 
 told_by : DescriptionsTell → (files : Files) (form : Option Form) (fault : Fault) → (known_form form >>= job_by files) ≡ Err fault → Tells fault
 told_by tell files None fault is = let same : Words ≡ fault = cc in subst Tells same tt

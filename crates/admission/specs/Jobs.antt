@@ -13,11 +13,12 @@ use Rattle.machine_desc.specs.declared.plan.Item.{Item}
 use Rattle.machine_desc.specs.declared.plan.Item.TheVariants.{Run}
 use Rattle.machine_desc.specs.Described.{Described, description_of}
 use Rattle.admission.specs.declared.faults.Fault.{Fault}
-use Rattle.admission.specs.declared.faults.Fault.TheVariants.{CacheAdmission, Admission}
-use Rattle.admission.specs.Words.{Form, Raw, Machine, Private, form_of}
-use Rattle.admission.specs.Chain.{Files, ◌>>=◌, known_form, content, of_description, longest_description, longest_image}
+use Rattle.admission.specs.declared.faults.Fault.TheVariants.{Unbuilt, CacheAdmission, Admission}
+use Rattle.admission.specs.Words.{Form, Raw, Machine, Private, Litmus as LitmusForm, form_of}
+use Rattle.admission.specs.Chain.{Files, ◌>>=◌, known_form, content, of_description, longest_description, longest_litmus, longest_image}
 use Rattle.admission.specs.Starts.{Start, raw_image, of_guest, starts_from}
-use Rattle.admission.specs.Unbuilt.{unbuilt, refused_key}
+use Rattle.unbuilt_keys.specs.declared.key.UnbuiltKey.{UnbuiltKey}
+use Rattle.unbuilt_keys.specs.Unbuilt.{unbuilt}
 
 -- what is to be done
 pub data Job : Type 0 where
@@ -25,6 +26,8 @@ pub data Job : Type 0 where
   Monitored : Described → List Start → Bool → Job
   -- the same, each guest alone on its private machine
   Alone : Described → List Start → Job
+  -- what a litmus file of these bytes asks for, or its refusal
+  Litmus : List ℕ → Job
 
 -- how the machine's frames lie
 abbrev pub layout_in : Described → Layout
@@ -41,6 +44,11 @@ served None = Ok tt
 served (Some Memory) = Ok tt
 served (Some (Cell cell needs has)) = Err (CacheAdmission cell needs has)
 served (Some (Guest guest needs has)) = Err (Admission guest needs has)
+
+-- a key that isn't built is refused, under the monitor and alone
+abbrev pub refused_key : Option UnbuiltKey → Result (Unit {0}) Fault
+refused_key None = Ok tt
+refused_key (Some key) = Err (Unbuilt key)
 
 -- first all that is asked for has to be built, then the cells and the guests have to get their frames
 abbrev pub checks : Described → Result (Unit {0}) Fault
@@ -93,10 +101,15 @@ raw_checked steps bytes = of_guest 0 (raw_image bytes 16) >>= λ image. Ok (raw_
 abbrev pub raw_job : Files → List ℕ → ℕ → Result Job Fault
 raw_job files name steps = content files name longest_image >>= raw_checked steps
 
+-- the litmus file's reading; what it asks for is the run's to read
+abbrev pub litmus_job : Files → List ℕ → Result Job Fault
+litmus_job files name = content files name longest_litmus >>= λ bytes. Ok (Litmus bytes)
+
 abbrev pub job_by : Files → Form → Result Job Fault
 job_by files (Raw file steps) = raw_job files file steps
 job_by files (Machine file) = described_job false files file
 job_by files (Private file) = described_job true files file
+job_by files (LitmusForm file) = litmus_job files file
 
 -- what the words and the files ask for
 abbrev pub job_of : List (List ℕ) → Files → Result Job Fault

@@ -3,7 +3,6 @@ pub mod Words
 pub mod Chain
 pub mod Starts
 pub mod Started
-pub mod Unbuilt
 pub mod Jobs
 pub mod Stages
 pub mod Views

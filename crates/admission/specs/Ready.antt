@@ -8,12 +8,12 @@ use Rattle.admission.specs.declared.faults.Refusal.{Refusal}
 use Rattle.admission.specs.declared.faults.Refusal.TheVariants.{Fault as Faulty, Memory as NoMemory}
 use Rattle.admission.specs.declared.setup.Setup.{Setup}
 use Rattle.admission.specs.declared.setup.Job.{Job}
-use Rattle.admission.specs.declared.setup.Job.TheVariants.{Monitored, Alone}
+use Rattle.admission.specs.declared.setup.Job.TheVariants.{Monitored, Alone, Litmus}
 use Rattle.admission.specs.Chain.{Files}
 use Rattle.admission.specs.Jobs.{short_in}
 use Rattle.admission.specs.Stages.{FailedAt, IsCaused, Gives}
 use Rattle.admission.specs.Started.{AreStarted}
-use Rattle.admission.specs.Unbuilt.{unbuilt}
+use Rattle.unbuilt_keys.specs.Unbuilt.{unbuilt}
 use Rattle.admission.specs.Views.{starts_of}
 
 -- the description is within its bounds; each guest has an image and the number of its disk, and starts from these; and each cell and
@@ -25,10 +25,11 @@ pub record IsSetup (setup : Setup) : Type 0 where
   pub started : AreStarted setup.machine.guests (starts_of setup)
   pub served : short_in (described_seen setup.machine setup.plan) ≡ None
 
--- under the monitor all that is asked for is built
+-- under the monitor all that is asked for is built; of a litmus file nothing is known
 abbrev pub IsReady : Job → Type 0
 IsReady (Monitored setup sums) = IsSetup setup × (unbuilt (described_seen setup.machine setup.plan) ≡ None)
 IsReady (Alone setup) = IsSetup setup
+IsReady (Litmus bytes) = Unit {0}
 
 -- these files are what a shelf gave: it tells no other bytes, and what has none isn't there or failed
 pub record AreGiven (old new : ShelfView) (files : Files) : Type 0 where

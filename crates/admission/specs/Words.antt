@@ -15,11 +15,11 @@ texts words = map string_bytes words
 abbrev pub option : Text → Rule
 option name = record (new_rule name) { long = Some name }
 
--- the command: six options, no help, no version, no positional, no group
+-- the command: seven options, no help, no version, no positional, no group
 abbrev pub command : App
 command = record {
   top = record (new_shape (codes "disco")) {
-    rules = option (codes "raw") ∷ option (codes "steps") ∷ option (codes "machine") ∷ option (codes "private") ∷ option (codes "make") ∷ option (codes "load") ∷ [];
+    rules = option (codes "raw") ∷ option (codes "steps") ∷ option (codes "machine") ∷ option (codes "private") ∷ option (codes "make") ∷ option (codes "load") ∷ option (codes "litmus") ∷ [];
     no_binary_name = true;
     disable_help_flag = true;
     disable_version_flag = true;
@@ -35,6 +35,8 @@ pub data Form : Type 0 where
   Machine : Text → Form
   -- what a description says, each guest alone
   Private : Text → Form
+  -- what a litmus file says
+  Litmus : Text → Form
 
 -- the values of the options
 pub record Given : Type 0 where
@@ -44,6 +46,7 @@ pub record Given : Type 0 where
   pub private : Option Text
   pub make : Option Text
   pub load : Option Text
+  pub litmus : Option Text
 
 abbrev pub given_seen : Held → Given
 given_seen g = record {
@@ -53,6 +56,7 @@ given_seen g = record {
   private = option_map (λ s. s.now) g.private;
   make = option_map (λ s. s.now) g.make;
   load = option_map (λ s. s.now) g.load;
+  litmus = option_map (λ s. s.now) g.litmus;
 }
 
 abbrev pub given_by : List Row → Given
@@ -63,6 +67,7 @@ given_by rows = record {
   private = first_of (codes "private") rows;
   make = first_of (codes "make") rows;
   load = first_of (codes "load") rows;
+  litmus = first_of (codes "litmus") rows;
 }
 
 -- the most steps of a run
@@ -74,14 +79,15 @@ with_steps file None = None
 with_steps file (Some steps) = Some (Raw file steps)
 
 -- the form of the options that are present, where they are one of the sets and the number is in range
-abbrev pub chosen : Option Text → Option Text → Option Text → Option Text → Option Text → Option Text → Option Form
-chosen (Some file) (Some steps) None None None None = with_steps file (number_of most_steps steps)
-chosen None None (Some file) None None None = Some (Machine file)
-chosen None None None (Some file) None None = Some (Private file)
-chosen raw steps machine private make load = None
+abbrev pub chosen : Option Text → Option Text → Option Text → Option Text → Option Text → Option Text → Option Text → Option Form
+chosen (Some file) (Some steps) None None None None None = with_steps file (number_of most_steps steps)
+chosen None None (Some file) None None None None = Some (Machine file)
+chosen None None None (Some file) None None None = Some (Private file)
+chosen None None None None None None (Some file) = Some (Litmus file)
+chosen raw steps machine private make load litmus = None
 
 abbrev pub form_given : Given → Option Form
-form_given g = chosen g.raw g.steps g.machine g.private g.make g.load
+form_given g = chosen g.raw g.steps g.machine g.private g.make g.load g.litmus
 
 -- the command accepts the words where it finds no fault in them
 abbrev pub accepted : Kinds → List Row → Option Form
@@ -97,9 +103,11 @@ abbrev pub form_seen : Read → Form
 form_seen (read.Raw file steps) = Raw file.now steps
 form_seen (read.Machine file) = Machine file.now
 form_seen (read.Private file) = Private file.now
+form_seen (read.Litmus file) = Litmus file.now
 
 -- a raw guest's steps are no more than the most
 abbrev pub IsFew : Read → Type 0
 IsFew (read.Raw file steps) = steps ≤ most_steps
 IsFew (read.Machine file) = Unit {0}
 IsFew (read.Private file) = Unit {0}
+IsFew (read.Litmus file) = Unit {0}

@@ -7,19 +7,7 @@ use elf_image::ImageFault;
 use machine_desc::DescFault;
 use std::alloc::{AllocError, AllocFailed};
 use thiserror::Error;
-
-/// What a description may ask for, and isn't built yet. The number is that of a piece of work.
-#[derive(Clone, Copy, Debug, PartialEq, Eq)]
-pub enum UnbuiltKey {
-    /// An index of shared blocks.
-    Cache,
-    /// Migration by the policy.
-    Migrate,
-    /// Replication by the policy.
-    Replicate,
-    /// Work that is no run.
-    Act(usize),
-}
+use unbuilt_keys::UnbuiltKey;
 
 /// Why a job is refused.
 #[derive(Debug, Drop, Error)]

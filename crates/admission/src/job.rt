@@ -4,23 +4,23 @@ ghost use Rattle.admission.specs.declared.setup.Job.TheVariants.{Monitored, Alon
 ghost use Rattle.machine_desc.specs.Accepted.{IsDescribed};
 ghost use Rattle.machine_desc.specs.Described.{described_seen};
 ghost use Rattle.admission.specs.Chain.{Files};
-ghost use Rattle.admission.specs.Jobs.{checks, job_from, checked as checked_by, guests_of as guests_by, described_job as described_by, raw_guest, raw_from, raw_checked as raw_checked_by, raw_job as raw_by, job_by as job_of_form, job_of};
+ghost use Rattle.admission.specs.Jobs.{Litmus, checks, job_from, checked as checked_by, guests_of as guests_by, described_job as described_by, raw_guest, raw_from, raw_checked as raw_checked_by, raw_job as raw_by, litmus_job as litmus_by, job_by as job_of_form, job_of};
 ghost use Rattle.admission.specs.Ready.{IsReady, IsSetup, ReadsAs};
 ghost use Rattle.admission.specs.Stages.{Stage, Gives, seen};
 ghost use Rattle.admission.specs.Started.{IsStarted, AreStarted};
 ghost use Rattle.admission.specs.Views.{AreAsMany, image_seen, starts_seen, starts_of, job_seen};
 ghost use Rattle.admission.specs.Words.{texts, form_seen, IsFew};
 
+use crate::checking::check;
 use crate::description::described;
 use crate::disks::disks_in;
 use crate::guests::{Starts, starts_in};
 use crate::images::{LONGEST_IMAGE, raw_image};
 use crate::library::{bytes_at, place_of};
 use crate::raw::{RAW_PAGES, one, raw_parts};
-use crate::unbuilt::check;
 use crate::words::{Form, read_form};
 use crate::{DiskList, Job, Refusal, Setup};
-use base_words::GuestId;
+use base_words::{Bytes, GuestId};
 use elf_image::Image;
 use machine_desc::{Machine, Plan};
 use outside_io::{FileList, HeldFile, Shelf};
@@ -28,6 +28,8 @@ use std::alloc::{AllocError, Global};
 
 /// The longest description, in bytes.
 const LONGEST_DESCRIPTION: u64 = 1_048_576;
+/// The longest litmus file, in bytes.
+const LONGEST_LITMUS: u64 = 1_048_576;
 
 /// What a run is made of, from the files that are kept.
 fn setup_of(
@@ -172,6 +174,30 @@ fn raw_job<S: Shelf>(
     }
 }
 
+/// The job of a litmus file of these bytes.
+fn litmus_of(alloc: Global, bytes: &[u8]) -> Result<Job, Refusal>
+    ensures ready { IfOk result IsReady }
+    ensures gives { Gives (seen job_seen result) (Ok (Litmus bytes.now)) }
+{
+    Ok(Job::Litmus(Bytes::from_vec(bytes.to_vec(alloc)?)))
+}
+
+/// What a litmus file asks for.
+fn litmus_job<S: Shelf>(
+    alloc: Global,
+    shelf: &mut S,
+    files: &mut FileList,
+    name: &str,
+) -> Result<Job, Refusal>
+    ensures ready { IfOk result IsReady }
+    ensures stage { Stage (S.view shelf.old) (S.view shelf.new) files.old files.new (λ all. litmus_by all name.now) (seen job_seen result) }
+{
+    match place_of(alloc, shelf, files, name, LONGEST_LITMUS) {
+        Ok(place) => litmus_of(alloc, bytes_at(files.as_slice(), place)),
+        Err(refusal) => Err(refusal),
+    }
+}
+
 /// What a form asks for, with the files that it names kept in `files`.
 fn job_by<S: Shelf>(
     alloc: Global,
@@ -187,6 +213,7 @@ fn job_by<S: Shelf>(
         Form::Raw(name, steps) => raw_job(alloc, shelf, files, name, steps),
         Form::Machine(name) => described_job(alloc, shelf, files, false, name),
         Form::Private(name) => described_job(alloc, shelf, files, true, name),
+        Form::Litmus(name) => litmus_job(alloc, shelf, files, name),
     }
 }
 

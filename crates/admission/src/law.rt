@@ -6,7 +6,7 @@ ghost use Rattle.admission.specs.Chain.{Files};
 ghost use Rattle.admission.specs.Jobs.{job_of};
 ghost use Rattle.admission.specs.Steady.{IsSteady};
 ghost use Rattle.admission.specs.Tells.{Tells};
-ghost use Rattle.admission.specs.Words.{Form, Raw, Machine, Private, form_of};
+ghost use Rattle.admission.specs.Words.{Form, Raw, Machine, Private, Litmus, form_of};
 
 use machine_desc::accepted;
 
@@ -17,6 +17,8 @@ pub fn examples()
     ensures empty_name { form_of (codes "--raw=" ∷ codes "--steps" ∷ codes "0000000000" ∷ []) ≡ Some (Raw [] 0) }
     ensures last_dashes { form_of (codes "--machine" ∷ codes "m" ∷ codes "--" ∷ []) ≡ Some (Machine (codes "m")) }
     ensures dash_name { form_of (codes "--private=-x" ∷ []) ≡ Some (Private (codes "-x")) }
+    ensures litmus_file { form_of (codes "--litmus" ∷ codes "l" ∷ []) ≡ Some (Litmus (codes "l")) }
+    ensures litmus_steps { form_of (codes "--litmus" ∷ codes "l" ∷ codes "--steps" ∷ codes "5" ∷ []) ≡ None }
     ensures no_words { form_of [] ≡ None }
     ensures half { form_of (codes "--steps" ∷ codes "5" ∷ []) ≡ None }
     ensures twice { form_of (codes "--machine" ∷ codes "m" ∷ codes "--machine" ∷ codes "m" ∷ []) ≡ None }

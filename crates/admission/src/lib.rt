@@ -1,6 +1,7 @@
 //! From the command line's words and the files to what is to be done, or the first refusal.
 #![tactic(auto)]
 
+mod checking;
 mod description;
 mod disks;
 mod faults;
@@ -11,11 +12,10 @@ mod law;
 mod library;
 mod raw;
 mod setup;
-mod unbuilt;
 mod words;
 
 pub use disks::{DiskList, DiskNumbers};
-pub use faults::{Fault, Refusal, UnbuiltKey};
+pub use faults::{Fault, Refusal};
 pub use images::ImageList;
 pub use job::admit;
 pub use law::{examples, steady, told};

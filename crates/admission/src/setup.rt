@@ -1,5 +1,6 @@
 //! What is to be done.
 use crate::{DiskList, DiskNumbers, ImageList};
+use base_words::Bytes;
 use machine_desc::{Machine, Plan};
 
 /// What a run is made of: the machine and the plan, each guest's image, the disks, and which of them each guest has.
@@ -19,4 +20,6 @@ pub enum Job {
     Monitored { setup: Setup, sums: bool },
     /// Each guest runs alone on its private machine.
     Alone(Setup),
+    /// A litmus file of these bytes is carried out, or refused.
+    Litmus(Bytes),
 }

@@ -20,6 +20,8 @@ pub enum Form<'a> {
     Machine(&'a str),
     /// What a description says, each guest alone.
     Private(&'a str),
+    /// What a litmus file says.
+    Litmus(&'a str),
 }
 
 /// The values of the options.
@@ -31,6 +33,7 @@ struct Given<'a> {
     private: Option<&'a str>,
     make: Option<&'a str>,
     load: Option<&'a str>,
+    litmus: Option<&'a str>,
 }
 
 /// The most steps of a run.
@@ -80,7 +83,8 @@ fn command<'a>(alloc: Global) -> Result<Command<'a>, AllocError>
         .arg(option(alloc, "machine"))?
         .arg(option(alloc, "private"))?
         .arg(option(alloc, "make"))?
-        .arg(option(alloc, "load"))
+        .arg(option(alloc, "load"))?
+        .arg(option(alloc, "litmus"))
 }
 
 /// The form of the options that are present, where they are one of the sets and the number is in range.
@@ -95,12 +99,14 @@ fn choose<'a>(given: &Given<'a>) -> Option<Form<'a>>
         given.private,
         given.make,
         given.load,
+        given.litmus,
     ) {
-        (Some(file), Some(steps), None, None, None, None) => {
+        (Some(file), Some(steps), None, None, None, None, None) => {
             Some(Form::Raw(file, number_of(steps, MOST_STEPS)?))
         }
-        (None, None, Some(file), None, None, None) => Some(Form::Machine(file)),
-        (None, None, None, Some(file), None, None) => Some(Form::Private(file)),
+        (None, None, Some(file), None, None, None, None) => Some(Form::Machine(file)),
+        (None, None, None, Some(file), None, None, None) => Some(Form::Private(file)),
+        (None, None, None, None, None, None, Some(file)) => Some(Form::Litmus(file)),
         _ => None,
     }
 }
@@ -116,6 +122,7 @@ fn given_in<'a>(matches: &ArgMatches<'a>) -> Given<'a>
         private: matches.get_str("private"),
         make: matches.get_str("make"),
         load: matches.get_str("load"),
+        litmus: matches.get_str("litmus"),
     }
 }
 

@@ -18,7 +18,7 @@ use Rattle.machine_desc.specs.Bounds.{IsItem}
 use Rattle.machine_desc.specs.Described.{Described}
 use Rattle.admission.specs.Starts.{Start}
 use Rattle.admission.specs.Views.{image_seen, paired}
-use Rattle.monitor_run.specs.declared.private_run.Alone.{Alone}
+use Rattle.run_report.specs.declared.alone.Alone.{Alone}
 use Rattle.monitor_run.specs.Alone.{item_events, own_events, left_alone, machine_alone, all_alone, left_from, MayRun}
 
 pub private_run-append : (m : PrivateMachine) (xs ys : List OwnEvent) → private_run m (xs ++ ys) ≡ private_run (private_run m xs) ys

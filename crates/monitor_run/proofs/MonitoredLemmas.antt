@@ -1,8 +1,7 @@
--- Guests under the monitor: what is built, how they are booted, and that each is its private machine.
-use Rattle.std.proofs.Common.{◌≡◌, ℕ, suc, ◌*◌, ◌<◌, ◌≤◌, ◌==◌, List, [], ◌∷◌, length, Bool, true, false, not, Option, Some, None, refl, ap, sym, ◌∙◌, subst, arith}
+-- Guests under the monitor: how they are booted, and that each is its private machine.
+use Rattle.std.proofs.Common.{◌≡◌, ℕ, suc, ◌*◌, ◌<◌, ◌≤◌, List, [], ◌∷◌, length, ap, sym, ◌∙◌, subst, arith}
 use Rattle.std.specs.List.{AllByRecursion as ByRecursion}
-use Rattle.std.specs.Prelude.{position, option_map, slice_index_or}
-use Rattle.std.proofs.lemmas.Bool.Decides.{nat_tests}
+use Rattle.std.specs.Prelude.{slice_index_or}
 use Rattle.std.proofs.lemmas.List.{length-map}
 use Rattle.std.proofs.lemmas.List.Elements.{recursion_from_All}
 use Rattle.base_words.specs.declared.input.InputEntry.{InputEntry}
@@ -15,25 +14,19 @@ use Rattle.private_machine.specs.Operation.{Packet}
 use Rattle.isolation_law.specs.Start.{Boot, IsBoot, private_start}
 use Rattle.private_machine.specs.PrivateRun.{private_run, Image as Given}
 use Rattle.machine_desc.specs.declared.machine.GuestSpec.{GuestSpec}
-use Rattle.machine_desc.specs.declared.plan.Item.{Item}
-use Rattle.machine_desc.specs.declared.plan.Item.TheVariants.{Run, Move, Fail}
 use Rattle.machine_desc.specs.Accepted.{IsAccepted}
 use Rattle.machine_desc.specs.Bounds.{IsGuest}
 use Rattle.machine_desc.specs.Described.{Described}
 use Rattle.guest_core.specs.declared.records.GuestRecord.{GuestRecord}
 use Rattle.guest_core.specs.declared.records.RunRecord.{RunRecord}
 use Rattle.guest_core.specs.Records.{IsRecord}
-use Rattle.run_workers.specs.Starting.{IsBuilt, AreStarts, IsStart, is_run}
+use Rattle.run_workers.specs.Starting.{AreStarts, IsStart}
 use Rattle.run_workers.specs.WholeRecord.{AreRecords, IsWhole}
 use Rattle.admission.specs.Starts.{Start}
 use Rattle.admission.specs.Started.{AreStarted, IsStarted}
 use Rattle.admission.specs.Views.{image_seen, paired}
-use Rattle.admission.specs.declared.faults.UnbuiltKey.{UnbuiltKey}
-use Rattle.admission.specs.declared.faults.UnbuiltKey.TheVariants as key
-use Rattle.admission.specs.Unbuilt.{first_key, unbuilt, unless, is_run as admitted_run}
 use Rattle.monitor_run.specs.Monitored.{AreBooted, IsBooted, ArePrivate, IsPrivate, IsRun}
 use Rattle.monitor_run.specs.Sources.{source_of, sources_of}
-use Rattle.monitor_run.proofs.FoundLemmas.{option_map_none, position_none}
 use Rattle.monitor_run.proofs.SourceLemmas.{given_blocks-as_given}
 
 -- ---- starts
@@ -115,37 +108,3 @@ module _ (d : Described) where
         let booted = AreBooted-from 0 d.guests images disks d.input boots accepted.few_processors are same started starts in
         let sound = AreBoots-from 0 d.guests (paired images disks) d.input boots booted in
         record { boots = boots; booted = booted; whole = whole; private = ArePrivate-from boots whole.states out.guests sound whole.guests }
-
--- ---- what is built
-
-first_none : (k : Option UnbuiltKey) (ks : List (Option UnbuiltKey)) → first_key (k ∷ ks) ≡ None → (k ≡ None) × (first_key ks ≡ None)
-first_none None ks is = (refl, is)
-first_none (Some key) ks is = absurd (let no : Some key ≡ None = is in cc)
-
-unless_none : (b : Bool) (key : UnbuiltKey) → unless b key ≡ None → b ≡ true
-unless_none true key is = refl
-unless_none false key is = absurd (let no : Some key ≡ None = is in cc)
-
-is_run_same : (item : Item) → not (admitted_run item) ≡ false → is_run item ≡ true
-is_run_same (Run p g v steps) is = refl
-is_run_same (Move p g page kind node) is = absurd (let no : true ≡ false = is in cc)
-is_run_same (Fail p cell) is = absurd (let no : true ≡ false = is in cc)
-
--- what has no key that isn't built is built
-pub IsBuilt-from : (d : Described) → unbuilt d ≡ None → IsBuilt d
-unfolding unbuilt
-IsBuilt-from d is =
-    let cache = first_none (unless (d.cache == 0) key.Cache) _ is in
-    let migrate = first_none (unless (d.policy.migrate == 0) key.Migrate) _ cache.1 in
-    let replicate = first_none (unless (d.policy.replicate == 0) key.Replicate) _ migrate.1 in
-    let work = first_none (option_map (λ item. key.Act item) (position (λ item. not (admitted_run item)) d.items)) _ replicate.1 in
-    let no_cache = unless_none (d.cache == 0) key.Cache cache.0 in
-    let no_migration = unless_none (d.policy.migrate == 0) key.Migrate migrate.0 in
-    let no_replication = unless_none (d.policy.replicate == 0) key.Replicate replicate.0 in
-    let all = option_map_none (λ item. key.Act item) (position (λ item. not (admitted_run item)) d.items) work.0 in
-    record {
-      no_cache = grind (arith, nat_tests);
-      no_migration = grind (arith, nat_tests);
-      no_replication = grind (arith, nat_tests);
-      runs = λ k e lt. is_run_same (slice_index_or d.items k e) (position_none (λ item. not (admitted_run item)) d.items e all k lt);
-    }

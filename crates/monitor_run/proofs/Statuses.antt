@@ -1,5 +1,5 @@
 -- When each status comes.
-use Rattle.std.proofs.Common.{◌≡◌, ◌≢◌, ◌⊎◌, ℕ, List, Option, Some, None, Result, Ok, Err, refl, ap, sym, ◌∙◌, subst, arith, inl, inr}
+use Rattle.std.proofs.Common.{◌≡◌, ◌≢◌, ◌⊎◌, ◌<◌, ℕ, List, Option, Some, None, Result, Ok, Err, refl, ap, sym, ◌∙◌, subst, arith, inl, inr}
 use Rattle.base_words.specs.Counts.{Rose}
 use Rattle.outside_io.specs.Reading.{Told, Absent, Holds, ShelfView, MayBe}
 use Rattle.outside_io.specs.Writing.{SinkView}
@@ -7,13 +7,18 @@ use Rattle.guest_core.specs.declared.records.RunRecord.{RunRecord}
 use Rattle.admission.specs.declared.faults.Fault.{Fault}
 use Rattle.admission.specs.declared.faults.Fault.TheVariants.{Words, Read, Long, Description, BadImage, Unbuilt, CacheAdmission, Admission}
 use Rattle.admission.specs.Chain.{Files}
-use Rattle.admission.specs.Jobs.{Job, job_of}
+use Rattle.admission.specs.Jobs.{Job, Monitored, Alone, Litmus, job_of}
 use Rattle.admission.specs.Ready.{AreGiven}
 use Rattle.admission.specs.Stages.{FailedAt}
 use Rattle.admission.specs.Steady.{Extends, IsSteady, NeverReads}
 use Rattle.admission.specs.Words.{form_of}
-use Rattle.monitor_run.specs.Ends.{Ends}
-use Rattle.monitor_run.specs.Exactly.{AreTold, Failed, FailedFile, IsExactly, due_status}
+use Rattle.page_slots.specs.declared.op.Litmus.{Litmus as Accesses}
+use Rattle.litmus_file.specs.declared.fault.LitmusFault.{LitmusFault}
+use Rattle.litmus_file.specs.Reads.{Read as LitmusRead}
+use Rattle.litmus_file.specs.File.{litmus_of}
+use Rattle.litmus_run.specs.Command.{Answers as LitmusAnswers}
+use Rattle.monitor_run.specs.Ends.{Ends, Runs}
+use Rattle.monitor_run.specs.Exactly.{AreTold, Failed, FailedFile, IsExactly, RefusedLitmus, due_status, litmus_status}
 use Rattle.monitor_run.specs.FaultLines.{status_of}
 use Rattle.monitor_run.specs.Headline.{Answers, IsRead}
 
@@ -23,10 +28,24 @@ use Rattle.monitor_run.specs.Headline.{Answers, IsRead}
 abbrev OrFails : ℕ → SinkView → SinkView → ℕ → Type 0
 OrFails due c d status = (status ≡ due) ⊎ ((status ≡ 1) ⊎ ((status ≡ 4) × Rose c.faults d.faults))
 
+runs_status : (job : Job) (c d : SinkView) (out : RunRecord) (status : ℕ) → Runs job c d out status → OrFails 0 c d status
+runs_status job c d out status (inl completes) = inl completes.answer
+runs_status job c d out status (inr (inl unwritten)) = inr (inr (unwritten.answer, unwritten.sink.rose))
+runs_status job c d out status (inr (inr wants)) = inr (inl wants.1.answer)
+
+answers_status : (r : LitmusRead Accesses) (c d : SinkView) (status : ℕ) → LitmusAnswers r c d status → OrFails (litmus_status r) c d status
+answers_status (Ok accesses) c d status (inl completes) = inl completes.answer
+answers_status (Ok accesses) c d status (inr (inl unwritten)) = inr (inr (unwritten.answer, unwritten.sink.rose))
+answers_status (Ok accesses) c d status (inr (inr (inl unfinished))) = inr (inl unfinished.answer)
+answers_status (Ok accesses) c d status (inr (inr (inr wants))) = inr (inl wants.answer)
+answers_status (Err fault) c d status (inl (inl refuses)) = inl refuses.answer
+answers_status (Err fault) c d status (inl (inr untold)) = inr (inl untold.answer)
+answers_status (Err fault) c d status (inr wants) = inr (inl wants.answer)
+
 ends_status : (r : Result Job Fault) (c d : SinkView) (out : RunRecord) (status : ℕ) → Ends r c d out status → OrFails (due_status r) c d status
-ends_status (Ok job) c d out status (inl completes) = inl completes.answer
-ends_status (Ok job) c d out status (inr (inl unwritten)) = inr (inr (unwritten.answer, unwritten.sink.rose))
-ends_status (Ok job) c d out status (inr (inr wants)) = inr (inl wants.1.answer)
+ends_status (Ok (Monitored m starts sums)) c d out status runs = runs_status (Monitored m starts sums) c d out status runs
+ends_status (Ok (Alone m starts)) c d out status runs = runs_status (Alone m starts) c d out status runs
+ends_status (Ok (Litmus bytes)) c d out status (empty, answers) = answers_status (litmus_of bytes) c d status answers
 ends_status (Err fault) c d out status (empty, inl refuses) = inl refuses.answer
 ends_status (Err fault) c d out status (empty, inr wants) = inr (inl wants.answer)
 
@@ -34,9 +53,20 @@ refused_status : (fault : Fault) (c d : SinkView) (out : RunRecord) (status : �
 refused_status fault c d out status (empty, inl refuses) = inl refuses.answer
 refused_status fault c d out status (empty, inr wants) = inr wants.answer
 
+-- a litmus file has no status but 0 and 10
+litmus_not : (r : LitmusRead Accesses) (status : ℕ) → 0 < status → status < 10 → litmus_status r ≡ status → ⊥
+litmus_not (Ok accesses) status some few is = omega (arith, some, is)
+litmus_not (Err fault) status some few is = omega (arith, few, is)
+
+litmus_ten : (r : LitmusRead Accesses) → litmus_status r ≡ 10 → (fault : LitmusFault) × (r ≡ Err fault)
+litmus_ten (Ok accesses) is = absurd (omega (arith, is))
+litmus_ten (Err fault) is = (fault, refl)
+
 -- which refusals have a status
 due_two : (r : Result Job Fault) → due_status r ≡ 2 → r ≡ Err Words
-due_two (Ok job) is = absurd (omega (arith, is))
+due_two (Ok (Monitored m starts sums)) is = absurd (omega (arith, is))
+due_two (Ok (Alone m starts)) is = absurd (omega (arith, is))
+due_two (Ok (Litmus bytes)) is = absurd (litmus_not (litmus_of bytes) 2 (omega arith) (omega arith) is)
 due_two (Err Words) is = refl
 due_two (Err (Read name)) is = absurd (omega (arith, is))
 due_two (Err (Long name)) is = absurd (omega (arith, is))
@@ -47,7 +77,9 @@ due_two (Err (CacheAdmission cell needs has)) is = absurd (omega (arith, is))
 due_two (Err (Admission guest needs has)) is = absurd (omega (arith, is))
 
 due_three : (r : Result Job Fault) → due_status r ≡ 3 → (name : List ℕ) × (r ≡ Err (Read name))
-due_three (Ok job) is = absurd (omega (arith, is))
+due_three (Ok (Monitored m starts sums)) is = absurd (omega (arith, is))
+due_three (Ok (Alone m starts)) is = absurd (omega (arith, is))
+due_three (Ok (Litmus bytes)) is = absurd (litmus_not (litmus_of bytes) 3 (omega arith) (omega arith) is)
 due_three (Err Words) is = absurd (omega (arith, is))
 due_three (Err (Read name)) is = (name, refl)
 due_three (Err (Long name)) is = absurd (omega (arith, is))
@@ -58,7 +90,9 @@ due_three (Err (CacheAdmission cell needs has)) is = absurd (omega (arith, is))
 due_three (Err (Admission guest needs has)) is = absurd (omega (arith, is))
 
 not_four : (r : Result Job Fault) → due_status r ≡ 4 → ⊥
-not_four (Ok job) is = omega (arith, is)
+not_four (Ok (Monitored m starts sums)) is = omega (arith, is)
+not_four (Ok (Alone m starts)) is = omega (arith, is)
+not_four (Ok (Litmus bytes)) is = litmus_not (litmus_of bytes) 4 (omega arith) (omega arith) is
 not_four (Err Words) is = omega (arith, is)
 not_four (Err (Read name)) is = omega (arith, is)
 not_four (Err (Long name)) is = omega (arith, is)
@@ -67,6 +101,19 @@ not_four (Err (BadImage guest fault)) is = omega (arith, is)
 not_four (Err (Unbuilt key)) is = omega (arith, is)
 not_four (Err (CacheAdmission cell needs has)) is = omega (arith, is)
 not_four (Err (Admission guest needs has)) is = omega (arith, is)
+
+due_ten : (r : Result Job Fault) → due_status r ≡ 10 → (bytes : List ℕ) × (r ≡ Ok (Litmus bytes)) × (fault : LitmusFault) × (litmus_of bytes ≡ Err fault)
+due_ten (Ok (Monitored m starts sums)) is = absurd (omega (arith, is))
+due_ten (Ok (Alone m starts)) is = absurd (omega (arith, is))
+due_ten (Ok (Litmus bytes)) is = (let found = litmus_ten (litmus_of bytes) is in (bytes, refl, found.0, found.1))
+due_ten (Err Words) is = absurd (omega (arith, is))
+due_ten (Err (Read name)) is = absurd (omega (arith, is))
+due_ten (Err (Long name)) is = absurd (omega (arith, is))
+due_ten (Err (Description fault)) is = absurd (omega (arith, is))
+due_ten (Err (BadImage guest fault)) is = absurd (omega (arith, is))
+due_ten (Err (Unbuilt key)) is = absurd (omega (arith, is))
+due_ten (Err (CacheAdmission cell needs has)) is = absurd (omega (arith, is))
+due_ten (Err (Admission guest needs has)) is = absurd (omega (arith, is))
 
 -- a chain is refused at a read, or it isn't
 abbrev Stops : Result Job Fault → Type 0
@@ -165,6 +212,16 @@ module _ (w : List (List ℕ)) (a b : ShelfView) (c d : SinkView) (out : RunReco
           record { files = answers.files; given = answers.given; name = found.0; asked = found.1; failed = read_failed found.0 other found.1 }
       by (inr (inl one)) = absurd (other one)
       by (inr (inr failed)) = absurd (let four = failed.0 in omega (arith, four, three))
+
+  pub only_litmus_status : status ≡ 10 → RefusedLitmus w a b
+  only_litmus_status ten = by comes
+    where
+      by : OrFails (due_status (job_of w answers.files)) c d status → RefusedLitmus w a b
+      by (inl due) =
+          let found = due_ten (job_of w answers.files) (sym due ∙ ten) in
+          record { files = answers.files; given = answers.given; bytes = found.0; asked = found.1; fault = found.2; refused = found.3 }
+      by (inr (inl one)) = absurd (omega (arith, one, ten))
+      by (inr (inr failed)) = absurd (let four = failed.0 in omega (arith, four, ten))
 
   -- a call that stopped at a read
   read_status : (name : List ℕ) → job_of w answers.files ≡ Err (Read name) → (status ≡ 1) ⊎ ((status ≡ 3) × Failed a b)

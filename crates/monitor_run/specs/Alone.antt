@@ -13,7 +13,7 @@ use Rattle.machine_desc.specs.declared.plan.Item.{Item}
 use Rattle.machine_desc.specs.declared.plan.Item.TheVariants.{Run, Move, Fail}
 use Rattle.machine_desc.specs.Described.{Described}
 use Rattle.admission.specs.Starts.{Start}
-use Rattle.monitor_run.specs.declared.private_run.Alone.{Alone}
+use Rattle.run_report.specs.declared.alone.Alone.{Alone}
 
 -- a guest's own events by an item: a move and a failure are not carried out
 abbrev pub item_events : ℕ → Item → List OwnEvent

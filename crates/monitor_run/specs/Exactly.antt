@@ -6,18 +6,29 @@ use Rattle.outside_io.specs.Writing.{SinkView}
 use Rattle.admission.specs.declared.faults.Fault.{Fault}
 use Rattle.admission.specs.declared.faults.Fault.TheVariants.{Read}
 use Rattle.admission.specs.Chain.{Files}
-use Rattle.admission.specs.Jobs.{Job, job_of}
+use Rattle.admission.specs.Jobs.{Job, Monitored, Alone, Litmus, job_of}
 use Rattle.admission.specs.Ready.{AreGiven}
 use Rattle.admission.specs.Stages.{FailedAt}
+use Rattle.page_slots.specs.declared.op.Litmus.{Litmus as Accesses}
+use Rattle.litmus_file.specs.declared.fault.LitmusFault.{LitmusFault}
+use Rattle.litmus_file.specs.Reads.{Read as LitmusRead}
+use Rattle.litmus_file.specs.File.{litmus_of}
 use Rattle.monitor_run.specs.FaultLines.{status_of}
 
 -- a shelf tells that it holds these files
 abbrev pub AreTold : ShelfView → Files → Type 0
 AreTold shelf files = (name bytes : List ℕ) → files name ≡ Some bytes → shelf.told name ≡ Holds bytes
 
+-- the status of a litmus file that is carried out, or refused
+abbrev pub litmus_status : LitmusRead Accesses → ℕ
+litmus_status (Ok accesses) = 0
+litmus_status (Err fault) = 10
+
 -- the status of a job that is done, or refused
 abbrev pub due_status : Result Job Fault → ℕ
-due_status (Ok job) = 0
+due_status (Ok (Monitored d starts sums)) = 0
+due_status (Ok (Alone d starts)) = 0
+due_status (Ok (Litmus bytes)) = litmus_status (litmus_of bytes)
 due_status (Err fault) = status_of fault
 
 -- the shelf failed at some name
@@ -31,6 +42,15 @@ pub record FailedFile (words : List (List ℕ)) (old new : ShelfView) : Type 0 w
   pub name : List ℕ
   pub asked : job_of words files ≡ Err (Read name)
   pub failed : FailedAt old new name
+
+-- the words asked for a litmus file that the shelf gave, and it has a fault
+pub record RefusedLitmus (words : List (List ℕ)) (old new : ShelfView) : Type 0 where
+  pub files : Files
+  pub given : AreGiven old new files
+  pub bytes : List ℕ
+  pub asked : job_of words files ≡ Ok (Litmus bytes)
+  pub fault : LitmusFault
+  pub refused : litmus_of bytes ≡ Err fault
 
 -- the status that is due, or want of memory, or a fault that the shelf or the sink counted
 abbrev pub IsExactly : ℕ → ShelfView → ShelfView → SinkView → SinkView → ℕ → Type 0

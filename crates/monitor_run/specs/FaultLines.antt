@@ -9,9 +9,9 @@ use Rattle.machine_desc.specs.declared.fault.DescFault.{DescFault}
 use Rattle.machine_desc.specs.declared.fault.DescFault.TheVariants as description
 use Rattle.admission.specs.declared.faults.Fault.{Fault}
 use Rattle.admission.specs.declared.faults.Fault.TheVariants.{Words, Read, Long, Description, BadImage, Unbuilt, CacheAdmission, Admission}
-use Rattle.admission.specs.declared.faults.UnbuiltKey.{UnbuiltKey}
-use Rattle.admission.specs.declared.faults.UnbuiltKey.TheVariants as key
-use Rattle.monitor_run.specs.Report.{line_end}
+use Rattle.unbuilt_keys.specs.declared.key.UnbuiltKey.{UnbuiltKey}
+use Rattle.unbuilt_keys.specs.declared.key.UnbuiltKey.TheVariants as key
+use Rattle.run_report.specs.Report.{line_end}
 
 -- an integer, or the length of a text, a list or an array
 abbrev pub amount_text : Amount → List ℕ

@@ -1,5 +1,3 @@
-pub mod Counted
-pub mod Report
 pub mod FaultLines
 pub mod Alone
 pub mod Sources

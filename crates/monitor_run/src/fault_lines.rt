@@ -1,14 +1,17 @@
 //! The lines of refusals.
 ghost use Rattle.std.specs.Prelude.{◌≡◌, string_bytes, IfOk};
+ghost use Rattle.outside_io.specs.Writing.{Writes};
 ghost use Rattle.machine_desc.specs.declared.fault.DescFault.TheVariants.{Range};
 ghost use Rattle.admission.specs.declared.faults.Fault.TheVariants.{Description, BadImage, Unbuilt};
 ghost use Rattle.monitor_run.specs.FaultLines.{amount_text as amount_text_of, description_text as description_text_of, image_text as image_text_of, key_text as key_text_of, fault_line as fault_line_of};
 
-use admission::{Fault, UnbuiltKey};
+use admission::Fault;
 use base_words::{GuestId, Name};
 use elf_image::ImageFault;
 use machine_desc::{Amount, DescFault};
+use outside_io::{Sink, SinkFault};
 use std::alloc::{AllocError, Global};
+use unbuilt_keys::UnbuiltKey;
 
 /// An integer, or the length of a text, a list or an array.
 fn amount_text(alloc: Global, amount: Amount) -> Result<String, AllocError>
@@ -125,7 +128,7 @@ fn unbuilt_line(alloc: Global, key: UnbuiltKey) -> Result<String, AllocError>
 }
 
 /// The line of a refusal.
-pub fn fault_line(alloc: Global, fault: &Fault) -> Result<String, AllocError>
+fn fault_line(alloc: Global, fault: &Fault) -> Result<String, AllocError>
     ensures { IfOk result (λ line. string_bytes line ≡ fault_line_of fault.now) }
 {
     match fault {
@@ -149,5 +152,16 @@ pub fn fault_line(alloc: Global, fault: &Fault) -> Result<String, AllocError>
             let number = guest.0;
             format!(in alloc; "fault admission guest {number} needs {needs} has {has}\n")
         }
+    }
+}
+
+/// Puts the line of a refusal, and settles it.
+pub fn render_fault<K: Sink>(alloc: Global, sink: &mut K, fault: &Fault) -> Result<(), SinkFault>
+    ensures { Writes (K.view sink.old) (K.view sink.new) (fault_line_of fault.now) result }
+{
+    let line = fault_line(alloc, fault)?;
+    match sink.put(line.as_bytes()) {
+        Ok(()) => sink.finish(),
+        Err(fault) => Err(fault),
     }
 }

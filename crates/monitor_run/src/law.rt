@@ -1,21 +1,23 @@
 //! What the top call's contract says of each status.
-ghost use Rattle.std.specs.Prelude.{◌≡◌, ◌⊎◌, ℕ, List, None, Err};
+ghost use Rattle.std.specs.Prelude.{◌≡◌, ◌⊎◌, ◌++◌, ℕ, List, None, Err, codes};
 ghost use Rattle.base_words.specs.Counts.{Rose};
 ghost use Rattle.outside_io.specs.Reading.{ShelfView, Absent};
 ghost use Rattle.outside_io.specs.Writing.{SinkView};
 ghost use Rattle.guest_core.specs.declared.records.RunRecord.{RunRecord};
-ghost use Rattle.admission.specs.declared.faults.Fault.TheVariants.{Read};
+ghost use Rattle.admission.specs.declared.faults.Fault.TheVariants.{Read, CacheAdmission};
 ghost use Rattle.admission.specs.Chain.{Files};
 ghost use Rattle.admission.specs.Jobs.{job_of};
 ghost use Rattle.admission.specs.Steady.{NeverReads};
 ghost use Rattle.admission.specs.Words.{form_of};
-ghost use Rattle.monitor_run.specs.Exactly.{AreTold, Failed, FailedFile, IsExactly, due_status};
+ghost use Rattle.monitor_run.specs.Exactly.{AreTold, Failed, FailedFile, IsExactly, RefusedLitmus, due_status};
+ghost use Rattle.monitor_run.specs.FaultLines.{fault_line};
 ghost use Rattle.monitor_run.specs.Headline.{Answers};
+ghost use Rattle.run_report.specs.Report.{line_end};
 
 use admission::{steady, told};
 
 /// The words alone give status 2. Files that the shelf tells give the status that is due by them, unless memory is wanting, a read
-/// fails or the output does; and a file that it tells isn't there gives status 3.
+/// fails or the output does; and a file that it tells isn't there gives status 3. Status 10 is a litmus file's alone.
 pub fn exactly()
     ensures words { (w : List (List ℕ)) (a b : ShelfView) (c d : SinkView) (out : RunRecord) (status : ℕ)
         → Answers w a b c d out status → form_of w ≡ None → (status ≡ 2) ⊎ (status ≡ 1) }
@@ -31,7 +33,14 @@ pub fn exactly()
         → Answers w a b c d out status → status ≡ 3 → FailedFile w a b }
     ensures only_write { (w : List (List ℕ)) (a b : ShelfView) (c d : SinkView) (out : RunRecord) (status : ℕ)
         → Answers w a b c d out status → status ≡ 4 → Rose c.faults d.faults }
+    ensures only_litmus { (w : List (List ℕ)) (a b : ShelfView) (c d : SinkView) (out : RunRecord) (status : ℕ)
+        → Answers w a b c d out status → status ≡ 10 → RefusedLitmus w a b }
 {
     steady();
     told();
 }
+
+/// The line of a cell that is short, by example; no description leads to it as long as caches aren't built.
+pub fn examples()
+    ensures { fault_line (CacheAdmission (record { 0 = 0 }) 5 4) ≡ codes "fault admission cell 0 needs 5 has 4" ++ line_end }
+{}

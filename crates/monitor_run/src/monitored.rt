@@ -2,7 +2,7 @@
 ghost use Rattle.std.specs.Prelude.{◌≡◌, IfOk, None};
 ghost use Rattle.machine_desc.specs.Described.{described_seen};
 ghost use Rattle.admission.specs.Ready.{IsSetup};
-ghost use Rattle.admission.specs.Unbuilt.{unbuilt};
+ghost use Rattle.unbuilt_keys.specs.Unbuilt.{unbuilt};
 ghost use Rattle.admission.specs.Views.{starts_of};
 ghost use Rattle.monitor_run.specs.Monitored.{IsRun};
 

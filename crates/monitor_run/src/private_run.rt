@@ -10,21 +10,12 @@ ghost use Rattle.admission.specs.Views.{disks_seen, disk_numbered as disk_of_num
 ghost use Rattle.monitor_run.specs.Alone.{item_events, own_events, end_alone as end_of_alone, left_alone, machine_alone, left_from, alone_of, MayRun};
 
 use admission::Setup;
-use base_words::{Blocks, Bytes, End, GuestId, InputList, OwnEvent, Sequence, VcpuId};
+use base_words::{Blocks, End, GuestId, InputList, OwnEvent, VcpuId};
 use elf_image::Image;
 use flat_machine::Flat;
 use machine_desc::{GuestSpec, Item};
+use run_report::{Alone, AloneList};
 use std::alloc::{AllocError, Global};
-
-/// What a guest leaves that ran alone: what it printed, and how it ended.
-#[derive(Debug, Drop)]
-pub struct Alone {
-    pub console: Bytes,
-    pub end: End,
-}
-
-/// What guests leave, by their numbers.
-pub type AloneList = Sequence<Alone>;
 
 /// Makes so many steps of a virtual processor.
 fn run_steps(flat: &mut Flat, vcpu: VcpuId, steps: u64) -> Result<(), AllocError>

@@ -1,21 +1,24 @@
 //! The top call.
 ghost use Rattle.std.specs.Prelude.{◌≡◌, None, Ok};
 ghost use Rattle.machine_desc.specs.Described.{described_seen};
-ghost use Rattle.admission.specs.Jobs.{Monitored, Alone};
+ghost use Rattle.admission.specs.Jobs.{Monitored, Alone, Litmus};
 ghost use Rattle.admission.specs.Ready.{IsReady, IsSetup};
-ghost use Rattle.admission.specs.Unbuilt.{unbuilt};
+ghost use Rattle.unbuilt_keys.specs.Unbuilt.{unbuilt};
 ghost use Rattle.admission.specs.Views.{job_seen, starts_of};
 ghost use Rattle.admission.specs.Words.{texts};
 ghost use Rattle.monitor_run.specs.Ends.{Ends, Tells, nothing, status_put};
 ghost use Rattle.monitor_run.specs.FaultLines.{status_of as status_of_fault};
 ghost use Rattle.monitor_run.specs.Headline.{Answers};
 
+use crate::fault_lines::render_fault;
 use crate::monitored::run_monitored;
 use crate::private_run::run_alone;
-use crate::render::{render, render_alone, render_fault};
 use admission::{Fault, Job, Refusal, Setup, admit};
+use base_words::Bytes;
 use guest_core::RunRecord;
+use litmus_run::litmus;
 use outside_io::{Gate, Shelf, Sink, SinkFault, nothing_put_is_starved};
+use run_report::{render, render_alone};
 use std::alloc::Global;
 use std::sync::Wait;
 use std::thread::Threads;
@@ -81,7 +84,7 @@ fn carry_out<R: Threads + Wait + Sync, K: Sink, G: Gate>(
         Ok(record) => *out = record,
         Err(_) => return MEMORY,
     }
-    status_of_report(render(alloc, sink, sums, out.guests.as_slice()))
+    status_of_report(render(alloc, out, sums, sink))
 }
 
 /// Runs guests alone, and reports what they leave. No record is kept.
@@ -92,7 +95,20 @@ fn carry_out_alone<K: Sink>(alloc: Global, setup: &Setup, sink: &mut K) -> u8
     let Ok(left) = run_alone(alloc, setup) else {
         return MEMORY;
     };
-    status_of_report(render_alone(alloc, sink, left.as_slice()))
+    status_of_report(render_alone(alloc, left.as_slice(), sink))
+}
+
+/// Carries out a litmus file of these bytes, or tells its first fault. No record is kept.
+fn carry_out_litmus<R: Threads + Wait + Sync, K: Sink, G: Gate>(
+    rt: &R,
+    alloc: Global,
+    bytes: &Bytes,
+    sink: &mut K,
+    gate: &G,
+) -> u8
+    ensures { Ends (Ok (Litmus bytes.now)) (K.view sink.old) (K.view sink.new) nothing result }
+{
+    litmus(rt, alloc, bytes.as_slice(), sink, gate)
 }
 
 /// Carries a job out.
@@ -111,6 +127,7 @@ fn carry_out_job<R: Threads + Wait + Sync, K: Sink, G: Gate>(
     match job {
         Job::Monitored { setup, sums } => carry_out(rt, alloc, setup, sums, sink, gate, out),
         Job::Alone(setup) => carry_out_alone(alloc, &setup, sink),
+        Job::Litmus(bytes) => carry_out_litmus(rt, alloc, &bytes, sink, gate),
     }
 }
 

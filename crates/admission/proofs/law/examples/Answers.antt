@@ -23,6 +23,14 @@ pub returns-clause-dash_name : goal.returns-clause-dash_name
 unfolding form_of clap_on_literals
 returns-clause-dash_name c = refl
 
+pub returns-clause-litmus_file : goal.returns-clause-litmus_file
+unfolding form_of clap_on_literals
+returns-clause-litmus_file c = refl
+
+pub returns-clause-litmus_steps : goal.returns-clause-litmus_steps
+unfolding form_of clap_on_literals
+returns-clause-litmus_steps c = refl
+
 pub returns-clause-no_words : goal.returns-clause-no_words
 unfolding form_of clap_on_literals
 returns-clause-no_words c = refl

@@ -7,7 +7,7 @@ use Rattle.admission.specs.Views.{disk_numbered, disks_seen}
 use Rattle.run_workers.specs.declared.source.Source.{Source}
 use Rattle.run_workers.specs.Starting.{AreSources, AreStarts}
 use Rattle.monitor_run.specs.Sources.{sources_of}
-use Rattle.monitor_run.proofs.MonitoredLemmas.{IsBuilt-from, IsRun-from}
+use Rattle.monitor_run.proofs.MonitoredLemmas.{IsRun-from}
 use Rattle.monitor_run.proofs.SourceLemmas.{AreSources-started, few-started}
 use Rattle.monitor_run.proofs.monitored.run_monitored.Goals as goal
 
@@ -23,7 +23,7 @@ sources-requires-clause-few g c =
     (few-started setup.machine.guests setup.images disk setup.numbers (ready.images ∙ sym ready.numbers) ready.started)
 
 pub run-requires-clause-built : goal.run-requires-clause-built
-run-requires-clause-built g c κs within = IsBuilt-from (described_seen c.args.setup.machine c.args.setup.plan) c.requires.built
+run-requires-clause-built g c κs within = c.requires.built
 
 pub run-requires-clause-sources : goal.run-requires-clause-sources
 run-requires-clause-sources g c κs within =

@@ -1,7 +1,7 @@
 use Rattle.std.proofs.Common.{◌≡◌, ◌++◌, ◌+◌, List, subst, sym}
 use Rattle.machine_desc.specs.Described.{described_seen}
 use Rattle.admission.specs.Views.{starts_of}
-use Rattle.monitor_run.specs.declared.private_run.Alone.{Alone}
+use Rattle.run_report.specs.declared.alone.Alone.{Alone}
 use Rattle.monitor_run.specs.Alone.{alone_of, left_from}
 use Rattle.monitor_run.proofs.AloneLemmas.{left-push}
 use Rattle.monitor_run.proofs.private_run.run_alone.Goals as goal

@@ -13,7 +13,7 @@ use Rattle.machine_desc.specs.declared.plan.Item.{Item}
 use Rattle.machine_desc.specs.Described.{described_seen}
 use Rattle.admission.specs.Starts.{Start}
 use Rattle.admission.specs.Views.{disk_numbered, disks_seen, image_seen, starts_of}
-use Rattle.monitor_run.specs.declared.private_run.Alone.{Alone}
+use Rattle.run_report.specs.declared.alone.Alone.{Alone}
 use Rattle.monitor_run.specs.Alone.{left_alone, left_from, machine_alone}
 use Rattle.monitor_run.proofs.AloneLemmas.{disk-is, left_from-next, paired-at, paired-there}
 use Rattle.monitor_run.proofs.private_run.run_one.Goals as goal

@@ -1,0 +1,170 @@
+//! The programs of the folder `examples` at the top of the repository, each with its description and with the report that it has there.
+use crate::example_descriptions::{
+    DISK_DESCRIPTION, HELLO_DESCRIPTION, INPUT_DESCRIPTION, KERNEL_DESCRIPTION, LOANS_DESCRIPTION,
+    PACKETS_DESCRIPTION, TIMER_DESCRIPTION, TWO_GUESTS_DESCRIPTION,
+};
+use crate::example_images::{
+    ANSWERS, ASKS, DISK, DIVIDES, HELLO, INPUT, KERNEL, LETTERS, LOANS, Part, TIMER,
+};
+use crate::tests::{file_of_parts, words_of};
+use base_words::{Bytes, Name};
+use guest_core::RunRecord;
+use monitor_run::disco;
+use outside_io::{CallList, FileList, FreeGate, HeldFile, MemShelf, MemSink};
+use std::alloc::{AllocError, Global};
+use std::process::Abort;
+use std::sync::Wait;
+use std::test::Fail;
+use std::thread::Threads;
+
+/// The name of an image, and its parts.
+type Image<'a> = (&'a str, &'a [Part<'a>]);
+
+/// An example: its files, and what is to be printed under the monitor, with which status, and by its guests alone.
+#[derive(Clone, Copy)]
+struct Example<'a> {
+    about: &'a str,
+    description: &'a str,
+    images: &'a [Image<'a>],
+    disk: &'a [u8],
+    status: u8,
+    monitored: &'a str,
+    alone: &'a str,
+}
+
+/// A file of the shelf.
+fn file(alloc: Global, name: &str, bytes: Vec<u8>) -> Result<HeldFile, AllocError> {
+    Ok(HeldFile {
+        name: Name::copy_of(alloc, name)?,
+        bytes: Bytes::from_vec(bytes),
+    })
+}
+
+/// A shelf with the files of an example.
+fn shelf_of(alloc: Global, example: &Example) -> Result<MemShelf, AllocError> {
+    let mut files = FileList::new(alloc);
+    let description = example.description.as_bytes().to_vec(alloc)?;
+    files.push(file(alloc, "machine.toml", description)?)?;
+    for (name, parts) in example.images {
+        files.push(file(alloc, *name, file_of_parts(alloc, *parts)?)?)?;
+    }
+    files.push(file(alloc, "examples/disk/disk.img", example.disk.to_vec(alloc)?)?)?;
+    Ok(MemShelf::new(alloc, files, CallList::from_vec(Vec::new(alloc))))
+}
+
+/// Runs an example by an option, and compares the status and what is printed.
+fn try_example<R: Abort + Threads + Wait + Sync>(
+    rt: &R,
+    alloc: Global,
+    example: &Example,
+    option: &str,
+    wanted: (u8, &str),
+) -> Result<(), AllocError> {
+    let mut shelf = shelf_of(alloc, example)?;
+    let mut sink = MemSink::new(alloc, CallList::from_vec(Vec::new(alloc)));
+    let words = words_of(alloc, &[option, "machine.toml"])?;
+    let mut out = RunRecord::empty(alloc);
+    let status = disco(
+        rt, alloc, &words, &mut shelf, &mut sink, &FreeGate, &mut out,
+    );
+    let about = example.about;
+    let (wanted_status, output) = wanted;
+    assert_eq!(rt; status, wanted_status, "status of {about} by {option}");
+    assert_eq!(rt;
+        sink.bytes(),
+        output.as_bytes(),
+        "output of {about} by {option}"
+    );
+    Ok(())
+}
+
+#[test]
+fn examples_print_what_they_should(rt: HostRuntime) -> Result<(), Fail> {
+    let examples = [
+        Example {
+            about: "hello",
+            description: HELLO_DESCRIPTION,
+            images: &[("examples/hello/guest.raw", HELLO)],
+            disk: &[],
+            status: 0,
+            monitored: "guest 0 console 12\nHello, world\nend halted\nsums steps 68 refills 1 moves 0 skips 0 breaks 0 shared 0 received 0 discarded 0\n",
+            alone: "guest 0 console 12\nHello, world\nend halted\n",
+        },
+        Example {
+            about: "timer",
+            description: TIMER_DESCRIPTION,
+            images: &[("examples/timer/guest.raw", TIMER)],
+            disk: &[],
+            status: 0,
+            monitored: "guest 0 console 6\n12345.\nend halted\nsums steps 513 refills 1 moves 0 skips 0 breaks 0 shared 0 received 0 discarded 0\n",
+            alone: "guest 0 console 6\n12345.\nend halted\n",
+        },
+        Example {
+            about: "kernel",
+            description: KERNEL_DESCRIPTION,
+            images: &[("examples/kernel/guest.raw", KERNEL)],
+            disk: &[],
+            status: 0,
+            monitored: "guest 0 console 14\nabcd\nrefills 2\nend halted\nsums steps 220 refills 7 moves 0 skips 0 breaks 0 shared 0 received 0 discarded 0\n",
+            alone: "guest 0 console 14\nabcd\nrefills 2\nend halted\n",
+        },
+        Example {
+            about: "disk",
+            description: DISK_DESCRIPTION,
+            images: &[("examples/disk/guest.raw", DISK)],
+            disk: b"disco",
+            status: 0,
+            monitored: "guest 0 console 13\ndisco DISCO 1\nend halted\nsums steps 121 refills 3 moves 0 skips 0 breaks 0 shared 0 received 0 discarded 0\n",
+            alone: "guest 0 console 13\ndisco DISCO 1\nend halted\n",
+        },
+        Example {
+            about: "input",
+            description: INPUT_DESCRIPTION,
+            images: &[("examples/input/guest.raw", INPUT)],
+            disk: &[],
+            status: 0,
+            monitored: "guest 0 console 18\ndisco never stops.\nend halted\nsums steps 184 refills 1 moves 0 skips 0 breaks 0 shared 0 received 0 discarded 0\n",
+            alone: "guest 0 console 18\ndisco never stops.\nend halted\n",
+        },
+        Example {
+            about: "two_guests",
+            description: TWO_GUESTS_DESCRIPTION,
+            images: &[
+                ("examples/two_guests/guest0.raw", LETTERS),
+                ("examples/two_guests/guest1.raw", DIVIDES),
+            ],
+            disk: &[],
+            status: 0,
+            monitored: "guest 0 console 26\nABCDEFGHIJKLMNOPQRSTUVWXYZ\nend halted\nsums steps 109 refills 1 moves 0 skips 0 breaks 0 shared 0 received 0 discarded 0\nguest 1 console 5\n65536\nend halted\nsums steps 63 refills 2 moves 0 skips 0 breaks 0 shared 0 received 0 discarded 0\n",
+            alone: "guest 0 console 26\nABCDEFGHIJKLMNOPQRSTUVWXYZ\nend halted\nguest 1 console 5\n65536\nend halted\n",
+        },
+        Example {
+            about: "loans",
+            description: LOANS_DESCRIPTION,
+            images: &[("examples/loans/guest.raw", LOANS)],
+            disk: &[],
+            status: 0,
+            monitored: "guest 0 console 6\nfedcba\nend halted\nsums steps 74 refills 6 moves 0 skips 0 breaks 0 shared 0 received 0 discarded 0\n",
+            alone: "guest 0 console 6\nfedcba\nend halted\n",
+        },
+        Example {
+            about: "packets",
+            description: PACKETS_DESCRIPTION,
+            images: &[
+                ("examples/packets/guest0.raw", ASKS),
+                ("examples/packets/guest1.raw", ANSWERS),
+            ],
+            disk: &[],
+            status: 0,
+            monitored: "guest 0 console 4\npong\nend halted\nsums steps 40 refills 4 moves 0 skips 0 breaks 0 shared 0 received 1 discarded 0\nguest 1 console 4\nping\nend halted\nsums steps 43 refills 3 moves 0 skips 0 breaks 0 shared 0 received 1 discarded 0\n",
+            alone: "guest 0 console 0\n\nend budget\nguest 1 console 0\n\nend budget\n",
+        },
+    ];
+    let alloc = rt.alloc();
+    for example in &examples {
+        let monitored = (example.status, example.monitored);
+        try_example(&rt, alloc, example, "--machine", monitored)?;
+        try_example(&rt, alloc, example, "--private", (0, example.alone))?;
+    }
+    Ok(())
+}

@@ -1,0 +1,33 @@
+//! Tests of whole runs, from the words and the files to the output and the record.
+#![tactic(auto)]
+
+#[cfg(test)]
+mod cases;
+#[cfg(test)]
+mod descriptions;
+#[cfg(test)]
+mod example_descriptions;
+#[cfg(test)]
+mod example_images;
+#[cfg(test)]
+mod examples;
+#[cfg(test)]
+mod handlers;
+#[cfg(test)]
+mod journals;
+#[cfg(test)]
+mod litmus_files;
+#[cfg(test)]
+mod packets;
+#[cfg(test)]
+mod parallel;
+#[cfg(test)]
+mod programs;
+#[cfg(test)]
+mod refusals;
+#[cfg(test)]
+mod spaces;
+#[cfg(test)]
+mod states;
+#[cfg(test)]
+mod tests;
