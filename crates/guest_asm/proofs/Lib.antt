@@ -1,0 +1,16 @@
+pub mod Places
+pub mod WordRuns
+pub mod Digits
+pub mod Ranges
+pub mod RowSearch
+pub mod Joined
+pub mod Kept
+pub mod Onward
+pub mod Puts
+pub mod Ordered
+pub mod LineWords
+pub mod SoFar
+pub mod Segment
+pub mod Rows
+pub mod DecodedGroups
+pub mod Decoded

@@ -1,0 +1,15 @@
+pub mod Characters
+pub mod Numbers
+pub mod Operands
+pub mod Lines
+pub mod Mnemonics
+pub mod Statements
+pub mod Values
+pub mod Words
+pub mod Addresses
+pub mod Sites
+pub mod Causes
+pub mod Image
+pub mod Assembled
+pub mod Listing
+pub mod Decoding
