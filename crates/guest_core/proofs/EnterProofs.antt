@@ -9,7 +9,7 @@ use Rattle.base_words.specs.declared.ids.VcpuId.{VcpuId}
 use Rattle.base_words.specs.declared.moves.Policy.{Policy}
 use Rattle.shootdown.specs.declared.notes.Note.TheVariants.{Made}
 use Rattle.shootdown.specs.declared.view.SidedNote.{SidedNote}
-use Rattle.shootdown.specs.Notes.{sided}
+use Rattle.shootdown.specs.Notes.{Seat, sided}
 use Rattle.isolation_law.specs.GuestState.{GuestState}
 use Rattle.isolation_law.specs.MachineEvent.{Row}
 use Rattle.isolation_law.specs.Phases.{all_halted, GoesOn}
@@ -19,7 +19,9 @@ use Rattle.isolation_law.specs.Start.{Boot}
 use Rattle.isolation_law.specs.StepRows.{Steps, Emulates}
 use Rattle.guest_core.specs.GuestCalls.{step_entries, end_of, Makes, SendsOut, TurnsEmulate}
 use Rattle.guest_core.specs.GuestView.{Monitored, loaded_count}
-use Rattle.guest_core.specs.Kept.{Kept}
+use Rattle.guest_course.specs.CourseView.{state_of}
+use Rattle.guest_core.specs.declared.parts.Parts.{Parts}
+use Rattle.guest_core.specs.Kept.{Kept, IsKept}
 use Rattle.guest_core.specs.TurnParts.{Concludes}
 use Rattle.guest_core.specs.Laws.{RowLaws, RunLaws}
 use Rattle.guest_core.proofs.KeptProofs.{IsOff, kept-one, kept-none, direct-leaves, refill-leaves, emulate-leaves, emulate-end, end-leaves, as-many}
@@ -51,6 +53,23 @@ kept-emulate w r b s m t journal notes p v k there row halted is =
 
 pub of-these : (b : Boot) (s : GuestState) (journal journal' : List Event) (notes notes' : List SidedNote) → journal' ≡ journal → notes' ≡ notes → Kept b s journal notes → Kept b s journal' notes'
 of-these b s journal journal' notes notes' j n k = subst (λ (l : List Event). Kept b s l notes') (sym j) (subst (λ (l : List SidedNote). Kept b s journal l) (sym n) k)
+
+-- a note of an answer that makes no entry
+pub noted-kept : (g : Parts) (seat : Seat) (n : SidedNote) → IsKept g → seat ≡ record g.seat { notes = g.seat.notes ++ n ∷ [] } → Kept g.start (state_of g.course) g.journal.entries (g.seat.notes ++ n ∷ []) → IsKept (record g { seat = seat })
+noted-kept g seat n k is kept = record {
+  sound = k.sound;
+  seat = ap (λ (x : Seat). x.number) is ∙ k.seat;
+  kept = of-these g.start (state_of g.course) _ _ _ _ refl (ap (λ (x : Seat). x.notes) is) kept;
+  goes_on = k.goes_on;
+  frames = k.frames;
+  used = k.used;
+  at_home = k.at_home;
+  no_policy = k.no_policy;
+  unloads = k.unloads;
+  few_guests = k.few_guests;
+  wired = k.wired;
+  posted = k.posted;
+}
 
 -- ---- how far the guest is
 

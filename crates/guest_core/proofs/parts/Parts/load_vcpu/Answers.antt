@@ -10,6 +10,7 @@ use Rattle.guest_course.specs.CourseView.{state_of}
 use Rattle.guest_core.specs.Kept.{Kept}
 use Rattle.guest_core.proofs.HoldingLemmas.{frames-stay}
 use Rattle.guest_core.proofs.KeptProofs.{kept-one, kept-answer, load-leaves, one-more}
+use Rattle.guest_core.proofs.EnterProofs.{noted-kept}
 use Rattle.guest_core.proofs.RoomLemmas.{two-entries, less-room}
 use Rattle.guest_core.specs.Wiring.{Posted}
 use Rattle.guest_core.proofs.WiringProofs.{posted-same, quiet-one, quiet-load}
@@ -23,20 +24,7 @@ returns-in-Some-clause-kept c =
     let is = c.in-Some.is in
     let n : SidedNote = sided c.args.token.now.number (Ended c.in-Some.end) in
     let kept = kept-answer c.laws.ensures.runs old.start s old.journal.entries old.seat.notes n k.kept (subst (λ (n : ℕ). c.args.token.now.number < n) (sym k.kept.processors) c.requires.may.notes.is_processor) tt (is, λ same. c.requires.may.before (is ∙ ap Some same)) in
-    record {
-      sound = k.sound;
-      seat = ap (λ (x : Seat). x.number) c.note.ensures.seat ∙ k.seat;
-      kept = subst (λ (l : List SidedNote). Kept old.start s old.journal.entries l) (sym (ap (λ (x : Seat). x.notes) c.note.ensures.seat)) kept;
-      goes_on = k.goes_on;
-      frames = k.frames;
-      used = k.used;
-      at_home = k.at_home;
-      no_policy = k.no_policy;
-      unloads = k.unloads;
-      few_guests = k.few_guests;
-      wired = k.wired;
-      posted = k.posted;
-    }
+    noted-kept old c.note.new.seat n k c.note.ensures.seat kept
 
 pub returns-clause-kept : goal.returns-clause-kept
 returns-clause-kept c =

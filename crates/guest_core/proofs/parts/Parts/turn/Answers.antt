@@ -1,18 +1,18 @@
 -- A turn is the next entry, or the news that there is none.
-use Rattle.std.proofs.Common.{◌≡◌, ℕ, ◌<◌, Some, unwrap_or, true, length, refl, sym, ap, ◌∙◌, subst}
+use Rattle.std.proofs.Common.{◌≡◌, ℕ, ◌<◌, Some, unwrap_or, true, length, sym, ap, ◌∙◌, subst}
 use Rattle.std.proofs.lemmas.List.{get_or_default}
 use Rattle.base_words.specs.declared.ids.VcpuId.{VcpuId}
 use Rattle.private_machine.specs.Vcpu.{no_vcpu}
 use Rattle.shootdown.specs.declared.notes.Note.TheVariants.{Halted, Ended}
 use Rattle.shootdown.specs.declared.view.SidedNote.{SidedNote}
-use Rattle.shootdown.specs.Notes.{Seat, sided}
+use Rattle.shootdown.specs.Notes.{sided}
 use Rattle.private_machine.specs.declared.vcpu.Vcpu.{Vcpu}
 use Rattle.isolation_law.specs.GuestState.{processor, vcpu_of}
 use Rattle.guest_course.specs.CourseView.{state_of}
 use Rattle.guest_core.specs.GuestCalls.{Leaves, processor_of, loaded_on, Turns, told_of_turn}
 use Rattle.guest_core.specs.GuestView.{guest_of}
 use Rattle.guest_core.proofs.KeptProofs.{kept-answer}
-use Rattle.guest_core.proofs.EnterProofs.{of-these}
+use Rattle.guest_core.proofs.EnterProofs.{noted-kept}
 use Rattle.guest_core.proofs.parts.Parts.turn.Given.{Over}
 use Rattle.guest_core.proofs.parts.Parts.turn.Goals as goal
 
@@ -24,20 +24,7 @@ returns-in-Some-clause-kept g c =
     let is = c.in-Some.is in
     let n : SidedNote = sided c.args.token.now.number (Ended c.in-Some.end) in
     let kept = kept-answer c.laws.ensures.runs old.start s old.journal.entries old.seat.notes n k.kept (subst (λ (n : ℕ). c.args.token.now.number < n) (sym k.kept.processors) c.requires.may.notes.is_processor) tt (is, λ same. c.requires.may.before (is ∙ ap Some same)) in
-    record {
-      sound = k.sound;
-      seat = ap (λ (x : Seat). x.number) c.note.ensures.seat ∙ k.seat;
-      kept = of-these old.start s _ _ _ _ refl (ap (λ (x : Seat). x.notes) c.note.ensures.seat) kept;
-      goes_on = k.goes_on;
-      frames = k.frames;
-      used = k.used;
-      at_home = k.at_home;
-      no_policy = k.no_policy;
-      unloads = k.unloads;
-      few_guests = k.few_guests;
-      wired = k.wired;
-      posted = k.posted;
-    }
+    noted-kept old c.note.new.seat n k c.note.ensures.seat kept
 
 pub returns-then-index-clause-kept : goal.returns-then-index-clause-kept
 returns-then-index-clause-kept g c =
@@ -49,20 +36,7 @@ returns-then-index-clause-kept g c =
     let there : v.0 < length s.vcpus = k.sound.loaded c.number.result.0 v.0 (sym c.in-Some-loaded.ensures) in
     let halted : (vcpu_of s v.0).halted ≡ true = ap (λ (x : Vcpu). x.halted) (get_or_default s.vcpus v.0 no_vcpu c.index.result.now there ∙ sym c.index.ensures) ∙ c.if-index.true in
     let kept = kept-answer c.laws.ensures.runs old.start s old.journal.entries old.seat.notes n k.kept (subst (λ (n : ℕ). c.args.token.now.number < n) (sym k.kept.processors) c.requires.may.notes.is_processor) tt halted in
-    record {
-      sound = k.sound;
-      seat = ap (λ (x : Seat). x.number) c.note-then-index.ensures.seat ∙ k.seat;
-      kept = of-these old.start s _ _ _ _ refl (ap (λ (x : Seat). x.notes) c.note-then-index.ensures.seat) kept;
-      goes_on = k.goes_on;
-      frames = k.frames;
-      used = k.used;
-      at_home = k.at_home;
-      no_policy = k.no_policy;
-      unloads = k.unloads;
-      few_guests = k.few_guests;
-      wired = k.wired;
-      posted = k.posted;
-    }
+    noted-kept old c.note-then-index.new.seat n k c.note-then-index.ensures.seat kept
 
 -- it is the virtual processor that is loaded
 loaded-is : (g : Over) (c : goal.After-enter g) → c.in-Some-loaded.vcpu ≡ loaded_on (guest_of c.args.self.now) c.args.token.now
