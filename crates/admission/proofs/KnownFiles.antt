@@ -4,10 +4,10 @@ use Rattle.machine_desc.specs.declared.machine.GuestSpec.{GuestSpec}
 use Rattle.machine_desc.specs.Described.{description_of}
 use Rattle.admission.specs.declared.faults.Fault.{Fault}
 use Rattle.admission.specs.declared.faults.Fault.TheVariants.{Read, Long}
-use Rattle.admission.specs.Words.{Form, Raw, Machine, Private, Litmus, form_of}
-use Rattle.admission.specs.Chain.{Files, ◌>>=◌, known_form, fitting, content, of_description, longest_description, longest_litmus, longest_image, longest_disk}
+use Rattle.admission.specs.Words.{Form, Raw, Machine, Private, Litmus, Asm, AsmSteps, form_of}
+use Rattle.admission.specs.Chain.{Files, ◌>>=◌, known_form, fitting, content, of_description, longest_description, longest_litmus, longest_text, longest_image, longest_disk}
 use Rattle.admission.specs.Starts.{Start, guest_image, of_guest, image_at, disk_at, blocks_of, start_at, starts_from}
-use Rattle.admission.specs.Jobs.{Job, Litmus as LitmusJob, checked, guests_of, described_job, raw_checked, raw_job, litmus_job, job_by, job_of}
+use Rattle.admission.specs.Jobs.{Job, Litmus as LitmusJob, checked, guests_of, described_job, raw_checked, raw_job, litmus_job, asm_checked, asm_run_checked, job_by, job_of}
 use Rattle.admission.specs.Steady.{Extends, NeverReads, IsSteady}
 
 -- a stage that asks for no file
@@ -96,11 +96,17 @@ steady-litmus : (name : List ℕ) → IsSteady (λ files. litmus_job files name)
 steady-litmus name =
     steady-then (λ files. content files name longest_litmus) (λ files bytes. let r : Result Job Fault = Ok (LitmusJob bytes) in r) (steady-content name longest_litmus) (λ bytes. steady-without (Ok (LitmusJob bytes)))
 
+-- a text's reading, and what follows of its bytes
+steady-text : (name : List ℕ) (next : List ℕ → Result Job Fault) → IsSteady (λ files. content files name longest_text >>= next)
+steady-text name next = steady-then (λ files. content files name longest_text) (λ files text. next text) (steady-content name longest_text) (λ text. steady-without (next text))
+
 steady-form : (form : Form) → IsSteady (λ files. job_by files form)
 steady-form (Raw file steps) = steady-raw file steps
 steady-form (Machine file) = steady-described false file
 steady-form (Private file) = steady-described true file
 steady-form (Litmus file) = steady-litmus file
+steady-form (Asm file) = steady-text file asm_checked
+steady-form (AsmSteps file steps) = steady-text file (asm_run_checked steps)
 
 pub steady-job : (words : List (List ℕ)) → IsSteady (λ files. job_of words files)
 steady-job words = steady-then (λ files. known_form (form_of words)) job_by (steady-without (known_form (form_of words))) steady-form

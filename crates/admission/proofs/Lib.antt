@@ -6,7 +6,7 @@ pub mod WholeCall
 pub mod NeverReads
 pub mod GuestLemmas
 pub mod DiskLemmas
-pub mod RawLemmas
+pub mod SingleLemmas
 pub mod BlockLemmas
 pub mod StartLemmas
 pub mod ReadyLemmas

@@ -1,6 +1,8 @@
 -- What is to be done, and why it is refused: all stages in order.
 use Rattle.std.specs.Prelude.{ℕ, List, [], ◌∷◌, map, length, Bool, true, false, codes, Option, Some, None, Result, Ok, Err}
 use Rattle.private_machine.specs.PrivateRun.{Image}
+use Rattle.guest_asm.specs.Assembly.{Assembly}
+use Rattle.elf_image.specs.Physical.{image_memory}
 use Rattle.node_frames.specs.Layout.{Layout}
 use Rattle.node_frames.specs.Left.{first_left}
 use Rattle.boot_frames.specs.Chain.{first_short}
@@ -14,8 +16,8 @@ use Rattle.machine_desc.specs.declared.plan.Item.TheVariants.{Run}
 use Rattle.machine_desc.specs.Described.{Described, description_of}
 use Rattle.admission.specs.declared.faults.Fault.{Fault}
 use Rattle.admission.specs.declared.faults.Fault.TheVariants.{Unbuilt, CacheAdmission, Admission}
-use Rattle.admission.specs.Words.{Form, Raw, Machine, Private, Litmus as LitmusForm, form_of}
-use Rattle.admission.specs.Chain.{Files, ◌>>=◌, known_form, content, of_description, longest_description, longest_litmus, longest_image}
+use Rattle.admission.specs.Words.{Form, Raw, Machine, Private, Litmus as LitmusForm, Asm, AsmSteps, form_of}
+use Rattle.admission.specs.Chain.{Files, ◌>>=◌, known_form, content, of_description, assembled, longest_description, longest_litmus, longest_text, longest_image}
 use Rattle.admission.specs.Starts.{Start, raw_image, of_guest, starts_from}
 use Rattle.unbuilt_keys.specs.declared.key.UnbuiltKey.{UnbuiltKey}
 use Rattle.unbuilt_keys.specs.Unbuilt.{unbuilt}
@@ -28,6 +30,8 @@ pub data Job : Type 0 where
   Alone : Described → List Start → Job
   -- what a litmus file of these bytes asks for, or its refusal
   Litmus : List ℕ → Job
+  -- what a text is assembled to is printed
+  Listing : Assembly → Job
 
 -- how the machine's frames lie
 abbrev pub layout_in : Described → Layout
@@ -70,32 +74,33 @@ abbrev pub described_job : Bool → Files → List ℕ → Result Job Fault
 described_job alone files name =
     content files name longest_description >>= λ bytes. of_description (description_of bytes) >>= guests_of alone files
 
--- a raw guest has 16 pages and one virtual processor, on one node of 16 frames with one processor; its file's name isn't kept
-abbrev pub raw_guest : GuestSpec
-raw_guest = record { image = codes "raw"; raw = true; pages = 16; vcpus = 1; node = record { 0 = 0 }; disk = None }
+-- a guest of the command line has 16 pages and one virtual processor, on one node of 16 frames with one processor; its image is a raw
+-- file or an ELF file, whose name isn't kept
+abbrev pub single_guest : Bool → GuestSpec
+single_guest raw = record { image = codes "guest"; raw = raw; pages = 16; vcpus = 1; node = record { 0 = 0 }; disk = None }
 
-abbrev pub raw_items : ℕ → List Item
-raw_items steps = Run (record { 0 = 0 }) (record { 0 = 0 }) (record { 0 = 0 }) steps ∷ []
+abbrev pub single_items : ℕ → List Item
+single_items steps = Run (record { 0 = 0 }) (record { 0 = 0 }) (record { 0 = 0 }) steps ∷ []
 
-abbrev pub raw_described : ℕ → Described
-raw_described steps = record {
+abbrev pub single_described : Bool → ℕ → Described
+single_described raw steps = record {
   nodes = 1;
   frames = 16;
   cells = record { 0 = 0 } ∷ [];
   processors = record { 0 = 0 } ∷ [];
   lends = 0 ∷ [];
   cache = 0;
-  guests = raw_guest ∷ [];
+  guests = single_guest raw ∷ [];
   policy = record { migrate = 0; replicate = 0 };
-  items = raw_items steps;
+  items = single_items steps;
   input = [] ∷ [];
 }
 
-abbrev pub raw_from : ℕ → Image → Job
-raw_from steps image = Monitored (raw_described steps) (record { image = image; disk = [] } ∷ []) false
+abbrev pub single_from : Bool → ℕ → Image → Job
+single_from raw steps image = Monitored (single_described raw steps) (record { image = image; disk = [] } ∷ []) false
 
 abbrev pub raw_checked : ℕ → List ℕ → Result Job Fault
-raw_checked steps bytes = of_guest 0 (raw_image bytes 16) >>= λ image. Ok (raw_from steps image)
+raw_checked steps bytes = of_guest 0 (raw_image bytes 16) >>= λ image. Ok (single_from true steps image)
 
 -- the raw file's reading, and then its image's faults
 abbrev pub raw_job : Files → List ℕ → ℕ → Result Job Fault
@@ -105,11 +110,34 @@ raw_job files name steps = content files name longest_image >>= raw_checked step
 abbrev pub litmus_job : Files → List ℕ → Result Job Fault
 litmus_job files name = content files name longest_litmus >>= λ bytes. Ok (Litmus bytes)
 
+-- the image of what was assembled, in the guest's memory; it has no fault
+abbrev pub asm_image : Assembly → Image
+asm_image assembly = record { entry = assembly.entry; pages = 16; memory = image_memory assembly.image 16 }
+
+abbrev pub asm_from : ℕ → Assembly → Job
+asm_from steps assembly = single_from false steps (asm_image assembly)
+
+-- the text's reading, and then its first line that is refused; what it is assembled to is printed
+abbrev pub asm_checked : List ℕ → Result Job Fault
+asm_checked text = assembled text >>= λ assembly. Ok (Listing assembly)
+
+abbrev pub asm_job : Files → List ℕ → Result Job Fault
+asm_job files name = content files name longest_text >>= asm_checked
+
+-- or its image is run, as a raw guest is
+abbrev pub asm_run_checked : ℕ → List ℕ → Result Job Fault
+asm_run_checked steps text = assembled text >>= λ assembly. Ok (asm_from steps assembly)
+
+abbrev pub asm_run : Files → List ℕ → ℕ → Result Job Fault
+asm_run files name steps = content files name longest_text >>= asm_run_checked steps
+
 abbrev pub job_by : Files → Form → Result Job Fault
 job_by files (Raw file steps) = raw_job files file steps
 job_by files (Machine file) = described_job false files file
 job_by files (Private file) = described_job true files file
 job_by files (LitmusForm file) = litmus_job files file
+job_by files (Asm file) = asm_job files file
+job_by files (AsmSteps file steps) = asm_run files file steps
 
 -- what the words and the files ask for
 abbrev pub job_of : List (List ℕ) → Files → Result Job Fault

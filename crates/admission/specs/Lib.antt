@@ -7,5 +7,6 @@ pub mod Jobs
 pub mod Stages
 pub mod Views
 pub mod Ready
+pub mod Texts
 pub mod Tells
 pub mod Steady

@@ -8,7 +8,7 @@ use Rattle.admission.specs.declared.faults.Refusal.{Refusal}
 use Rattle.admission.specs.declared.faults.Refusal.TheVariants.{Fault as Faulty, Memory as NoMemory}
 use Rattle.admission.specs.declared.setup.Setup.{Setup}
 use Rattle.admission.specs.declared.setup.Job.{Job}
-use Rattle.admission.specs.declared.setup.Job.TheVariants.{Monitored, Alone, Litmus}
+use Rattle.admission.specs.declared.setup.Job.TheVariants.{Monitored, Alone, Litmus, Listing}
 use Rattle.admission.specs.Chain.{Files}
 use Rattle.admission.specs.Jobs.{short_in}
 use Rattle.admission.specs.Stages.{FailedAt, IsCaused, Gives}
@@ -25,11 +25,12 @@ pub record IsSetup (setup : Setup) : Type 0 where
   pub started : AreStarted setup.machine.guests (starts_of setup)
   pub served : short_in (described_seen setup.machine setup.plan) ≡ None
 
--- under the monitor all that is asked for is built; of a litmus file nothing is known
+-- under the monitor all that is asked for is built; of a litmus file, and of what is printed, nothing is asked
 abbrev pub IsReady : Job → Type 0
 IsReady (Monitored setup sums) = IsSetup setup × (unbuilt (described_seen setup.machine setup.plan) ≡ None)
 IsReady (Alone setup) = IsSetup setup
 IsReady (Litmus bytes) = Unit {0}
+IsReady (Listing assembled) = Unit {0}
 
 -- these files are what a shelf gave: it tells no other bytes, and what has none isn't there or failed
 pub record AreGiven (old new : ShelfView) (files : Files) : Type 0 where

@@ -15,11 +15,11 @@ texts words = map string_bytes words
 abbrev pub option : Text → Rule
 option name = record (new_rule name) { long = Some name }
 
--- the command: seven options, no help, no version, no positional, no group
+-- the command: eight options, no help, no version, no positional, no group
 abbrev pub command : App
 command = record {
   top = record (new_shape (codes "disco")) {
-    rules = option (codes "raw") ∷ option (codes "steps") ∷ option (codes "machine") ∷ option (codes "private") ∷ option (codes "make") ∷ option (codes "load") ∷ option (codes "litmus") ∷ [];
+    rules = option (codes "raw") ∷ option (codes "steps") ∷ option (codes "machine") ∷ option (codes "private") ∷ option (codes "make") ∷ option (codes "load") ∷ option (codes "litmus") ∷ option (codes "asm") ∷ [];
     no_binary_name = true;
     disable_help_flag = true;
     disable_version_flag = true;
@@ -37,6 +37,10 @@ pub data Form : Type 0 where
   Private : Text → Form
   -- what a litmus file says
   Litmus : Text → Form
+  -- what the text of a program is assembled to
+  Asm : Text → Form
+  -- one guest from such a text, for so many steps
+  AsmSteps : Text → ℕ → Form
 
 -- the values of the options
 pub record Given : Type 0 where
@@ -47,6 +51,7 @@ pub record Given : Type 0 where
   pub make : Option Text
   pub load : Option Text
   pub litmus : Option Text
+  pub asm : Option Text
 
 abbrev pub given_seen : Held → Given
 given_seen g = record {
@@ -57,6 +62,7 @@ given_seen g = record {
   make = option_map (λ s. s.now) g.make;
   load = option_map (λ s. s.now) g.load;
   litmus = option_map (λ s. s.now) g.litmus;
+  asm = option_map (λ s. s.now) g.asm;
 }
 
 abbrev pub given_by : List Row → Given
@@ -68,26 +74,29 @@ given_by rows = record {
   make = first_of (codes "make") rows;
   load = first_of (codes "load") rows;
   litmus = first_of (codes "litmus") rows;
+  asm = first_of (codes "asm") rows;
 }
 
 -- the most steps of a run
 abbrev pub most_steps : ℕ
 most_steps = 16000000
 
-abbrev pub with_steps : Text → Option ℕ → Option Form
-with_steps file None = None
-with_steps file (Some steps) = Some (Raw file steps)
+abbrev pub with_steps : (Text → ℕ → Form) → Text → Option ℕ → Option Form
+with_steps form file None = None
+with_steps form file (Some steps) = Some (form file steps)
 
 -- the form of the options that are present, where they are one of the sets and the number is in range
-abbrev pub chosen : Option Text → Option Text → Option Text → Option Text → Option Text → Option Text → Option Text → Option Form
-chosen (Some file) (Some steps) None None None None None = with_steps file (number_of most_steps steps)
-chosen None None (Some file) None None None None = Some (Machine file)
-chosen None None None (Some file) None None None = Some (Private file)
-chosen None None None None None None (Some file) = Some (Litmus file)
-chosen raw steps machine private make load litmus = None
+abbrev pub chosen : Option Text → Option Text → Option Text → Option Text → Option Text → Option Text → Option Text → Option Text → Option Form
+chosen (Some file) (Some steps) None None None None None None = with_steps Raw file (number_of most_steps steps)
+chosen None None (Some file) None None None None None = Some (Machine file)
+chosen None None None (Some file) None None None None = Some (Private file)
+chosen None None None None None None (Some file) None = Some (Litmus file)
+chosen None None None None None None None (Some file) = Some (Asm file)
+chosen None (Some steps) None None None None None (Some file) = with_steps AsmSteps file (number_of most_steps steps)
+chosen raw steps machine private make load litmus asm = None
 
 abbrev pub form_given : Given → Option Form
-form_given g = chosen g.raw g.steps g.machine g.private g.make g.load g.litmus
+form_given g = chosen g.raw g.steps g.machine g.private g.make g.load g.litmus g.asm
 
 -- the command accepts the words where it finds no fault in them
 abbrev pub accepted : Kinds → List Row → Option Form
@@ -104,10 +113,14 @@ form_seen (read.Raw file steps) = Raw file.now steps
 form_seen (read.Machine file) = Machine file.now
 form_seen (read.Private file) = Private file.now
 form_seen (read.Litmus file) = Litmus file.now
+form_seen (read.Asm file) = Asm file.now
+form_seen (read.AsmSteps file steps) = AsmSteps file.now steps
 
--- a raw guest's steps are no more than the most
+-- a guest's steps on the command line are no more than the most
 abbrev pub IsFew : Read → Type 0
 IsFew (read.Raw file steps) = steps ≤ most_steps
 IsFew (read.Machine file) = Unit {0}
 IsFew (read.Private file) = Unit {0}
 IsFew (read.Litmus file) = Unit {0}
+IsFew (read.Asm file) = Unit {0}
+IsFew (read.AsmSteps file steps) = steps ≤ most_steps

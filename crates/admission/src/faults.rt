@@ -4,6 +4,7 @@ ghost use Rattle.admission.specs.declared.faults.Refusal.TheVariants.{Memory};
 
 use base_words::{CellId, GuestId, Name};
 use elf_image::ImageFault;
+use guest_asm::AsmCause;
 use machine_desc::DescFault;
 use std::alloc::{AllocError, AllocFailed};
 use thiserror::Error;
@@ -21,6 +22,12 @@ pub enum Fault {
     /// A file is longer than its limit.
     #[error("a file is too long")]
     Long(Name),
+    /// A line of a text is refused.
+    #[error("a line of the text is refused")]
+    Asm {
+        line: u32,
+        cause: AsmCause,
+    },
     /// The description is refused.
     #[error("the description is refused")]
     Description(DescFault),

@@ -4,24 +4,24 @@ ghost use Rattle.admission.specs.declared.setup.Job.TheVariants.{Monitored, Alon
 ghost use Rattle.machine_desc.specs.Accepted.{IsDescribed};
 ghost use Rattle.machine_desc.specs.Described.{described_seen};
 ghost use Rattle.admission.specs.Chain.{Files};
-ghost use Rattle.admission.specs.Jobs.{Litmus, checks, job_from, checked as checked_by, guests_of as guests_by, described_job as described_by, raw_guest, raw_from, raw_checked as raw_checked_by, raw_job as raw_by, litmus_job as litmus_by, job_by as job_of_form, job_of};
+ghost use Rattle.admission.specs.Jobs.{Litmus, checks, job_from, checked as checked_by, guests_of as guests_by, described_job as described_by, raw_checked as raw_checked_by, raw_job as raw_by, litmus_job as litmus_by, job_by as job_of_form, job_of};
 ghost use Rattle.admission.specs.Ready.{IsReady, IsSetup, ReadsAs};
 ghost use Rattle.admission.specs.Stages.{Stage, Gives, seen};
-ghost use Rattle.admission.specs.Started.{IsStarted, AreStarted};
-ghost use Rattle.admission.specs.Views.{AreAsMany, image_seen, starts_seen, starts_of, job_seen};
+ghost use Rattle.admission.specs.Started.{AreStarted};
+ghost use Rattle.admission.specs.Views.{AreAsMany, starts_seen, starts_of, job_seen};
 ghost use Rattle.admission.specs.Words.{texts, form_seen, IsFew};
 
+use crate::asm::{asm_job, asm_run};
 use crate::checking::check;
 use crate::description::described;
 use crate::disks::disks_in;
 use crate::guests::{Starts, starts_in};
 use crate::images::{LONGEST_IMAGE, raw_image};
 use crate::library::{bytes_at, place_of};
-use crate::raw::{RAW_PAGES, one, raw_parts};
+use crate::single::{SINGLE_PAGES, single_job};
 use crate::words::{Form, read_form};
-use crate::{DiskList, Job, Refusal, Setup};
+use crate::{Job, Refusal, Setup};
 use base_words::{Bytes, GuestId};
-use elf_image::Image;
 use machine_desc::{Machine, Plan};
 use outside_io::{FileList, HeldFile, Shelf};
 use std::alloc::{AllocError, Global};
@@ -126,32 +126,14 @@ fn described_job<S: Shelf>(
     }
 }
 
-/// The job of one raw guest from its image.
-fn raw_setup(alloc: Global, image: Image, steps: u64) -> Result<Job, AllocError>
-    requires few { steps ≤ 16000000 }
-    requires started { IsStarted raw_guest (record { image = image_seen image; disk = [] }) }
-    ensures ready { IfOk result IsReady }
-    ensures job { IfOk result (λ job. job_seen job ≡ raw_from steps (image_seen image)) }
-{
-    let (machine, plan) = raw_parts(alloc, steps)?;
-    let setup = Setup {
-        machine,
-        plan,
-        images: one(alloc, image)?,
-        disks: DiskList::new(alloc),
-        numbers: one(alloc, None)?,
-    };
-    Ok(Job::Monitored { setup, sums: false })
-}
-
 /// What a raw file's bytes ask for.
 fn raw_checked(alloc: Global, bytes: &[u8], steps: u64) -> Result<Job, Refusal>
     requires { steps ≤ 16000000 }
     ensures ready { IfOk result IsReady }
     ensures gives { Gives (seen job_seen result) (raw_checked_by steps bytes.now) }
 {
-    match raw_image(alloc, GuestId(0), RAW_PAGES, bytes) {
-        Ok(image) => Ok(raw_setup(alloc, image, steps)?),
+    match raw_image(alloc, GuestId(0), SINGLE_PAGES, bytes) {
+        Ok(image) => Ok(single_job(alloc, image, true, steps)?),
         Err(refusal) => Err(refusal),
     }
 }
@@ -214,6 +196,8 @@ fn job_by<S: Shelf>(
         Form::Machine(name) => described_job(alloc, shelf, files, false, name),
         Form::Private(name) => described_job(alloc, shelf, files, true, name),
         Form::Litmus(name) => litmus_job(alloc, shelf, files, name),
+        Form::Asm(name) => asm_job(alloc, shelf, files, name),
+        Form::AsmSteps(name, steps) => asm_run(alloc, shelf, files, name, steps),
     }
 }
 

@@ -1,12 +1,14 @@
 //! What the definitions say of words and of refusals.
-ghost use Rattle.std.specs.Prelude.{◌≡◌, ℕ, List, [], ◌∷◌, codes, Some, None, Err};
+ghost use Rattle.std.specs.Prelude.{◌≡◌, ◌↔◌, ℕ, List, [], ◌∷◌, codes, Some, None, Err};
+ghost use Rattle.guest_asm.specs.declared.fault.AsmCause.{AsmCause};
 ghost use Rattle.admission.specs.declared.faults.Fault.{Fault};
-ghost use Rattle.admission.specs.declared.faults.Fault.TheVariants.{Words};
+ghost use Rattle.admission.specs.declared.faults.Fault.TheVariants.{Words, Asm};
 ghost use Rattle.admission.specs.Chain.{Files};
 ghost use Rattle.admission.specs.Jobs.{job_of};
 ghost use Rattle.admission.specs.Steady.{IsSteady};
 ghost use Rattle.admission.specs.Tells.{Tells};
-ghost use Rattle.admission.specs.Words.{Form, Raw, Machine, Private, Litmus, form_of};
+ghost use Rattle.admission.specs.Texts.{RefusesLine};
+ghost use Rattle.admission.specs.Words.{Form, Raw, Machine, Private, Litmus, Asm as AsmForm, AsmSteps, form_of};
 
 use machine_desc::accepted;
 
@@ -18,6 +20,8 @@ pub fn examples()
     ensures last_dashes { form_of (codes "--machine" ∷ codes "m" ∷ codes "--" ∷ []) ≡ Some (Machine (codes "m")) }
     ensures dash_name { form_of (codes "--private=-x" ∷ []) ≡ Some (Private (codes "-x")) }
     ensures litmus_file { form_of (codes "--litmus" ∷ codes "l" ∷ []) ≡ Some (Litmus (codes "l")) }
+    ensures asm_file { form_of (codes "--asm" ∷ codes "p" ∷ []) ≡ Some (AsmForm (codes "p")) }
+    ensures asm_steps { form_of (codes "--steps" ∷ codes "7" ∷ codes "--asm" ∷ codes "p" ∷ []) ≡ Some (AsmSteps (codes "p") 7) }
     ensures litmus_steps { form_of (codes "--litmus" ∷ codes "l" ∷ codes "--steps" ∷ codes "5" ∷ []) ≡ None }
     ensures no_words { form_of [] ≡ None }
     ensures half { form_of (codes "--steps" ∷ codes "5" ∷ []) ≡ None }
@@ -29,10 +33,12 @@ pub fn examples()
     ensures help { form_of (codes "--help" ∷ []) ≡ None }
 {}
 
-/// No refusal is want of memory; and the words are refused only where they are none of the forms.
+/// No refusal is want of memory; the words are refused only where they are none of the forms; and a line is refused exactly where the
+/// words name a text that is read and of which it is the first line that is refused.
 pub fn told()
     ensures tells { (words : List (List ℕ)) (files : Files) (fault : Fault) → job_of words files ≡ Err fault → Tells fault }
     ensures words { (words : List (List ℕ)) (files : Files) → job_of words files ≡ Err Words → form_of words ≡ None }
+    ensures lines { (words : List (List ℕ)) (files : Files) (line : ℕ) (cause : AsmCause) → (job_of words files ≡ Err (Asm line cause)) ↔ RefusesLine words files line cause }
 {
     accepted();
 }

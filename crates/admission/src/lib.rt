@@ -1,6 +1,7 @@
 //! From the command line's words and the files to what is to be done, or the first refusal.
 #![tactic(auto)]
 
+mod asm;
 mod checking;
 mod description;
 mod disks;
@@ -10,8 +11,8 @@ mod images;
 mod job;
 mod law;
 mod library;
-mod raw;
 mod setup;
+mod single;
 mod words;
 
 pub use disks::{DiskList, DiskNumbers};

@@ -1,6 +1,7 @@
 //! What is to be done.
 use crate::{DiskList, DiskNumbers, ImageList};
 use base_words::Bytes;
+use guest_asm::Assembled;
 use machine_desc::{Machine, Plan};
 
 /// What a run is made of: the machine and the plan, each guest's image, the disks, and which of them each guest has.
@@ -22,4 +23,6 @@ pub enum Job {
     Alone(Setup),
     /// A litmus file of these bytes is carried out, or refused.
     Litmus(Bytes),
+    /// What a text is assembled to is printed.
+    Listing(Assembled),
 }

@@ -22,6 +22,10 @@ pub enum Form<'a> {
     Private(&'a str),
     /// What a litmus file says.
     Litmus(&'a str),
+    /// What the text of a program is assembled to.
+    Asm(&'a str),
+    /// A guest from such a text, for so many steps.
+    AsmSteps(&'a str, u64),
 }
 
 /// The values of the options.
@@ -34,6 +38,7 @@ struct Given<'a> {
     make: Option<&'a str>,
     load: Option<&'a str>,
     litmus: Option<&'a str>,
+    asm: Option<&'a str>,
 }
 
 /// The most steps of a run.
@@ -84,7 +89,8 @@ fn command<'a>(alloc: Global) -> Result<Command<'a>, AllocError>
         .arg(option(alloc, "private"))?
         .arg(option(alloc, "make"))?
         .arg(option(alloc, "load"))?
-        .arg(option(alloc, "litmus"))
+        .arg(option(alloc, "litmus"))?
+        .arg(option(alloc, "asm"))
 }
 
 /// The form of the options that are present, where they are one of the sets and the number is in range.
@@ -100,13 +106,18 @@ fn choose<'a>(given: &Given<'a>) -> Option<Form<'a>>
         given.make,
         given.load,
         given.litmus,
+        given.asm,
     ) {
-        (Some(file), Some(steps), None, None, None, None, None) => {
+        (Some(file), Some(steps), None, None, None, None, None, None) => {
             Some(Form::Raw(file, number_of(steps, MOST_STEPS)?))
         }
-        (None, None, Some(file), None, None, None, None) => Some(Form::Machine(file)),
-        (None, None, None, Some(file), None, None, None) => Some(Form::Private(file)),
-        (None, None, None, None, None, None, Some(file)) => Some(Form::Litmus(file)),
+        (None, None, Some(file), None, None, None, None, None) => Some(Form::Machine(file)),
+        (None, None, None, Some(file), None, None, None, None) => Some(Form::Private(file)),
+        (None, None, None, None, None, None, Some(file), None) => Some(Form::Litmus(file)),
+        (None, None, None, None, None, None, None, Some(file)) => Some(Form::Asm(file)),
+        (None, Some(steps), None, None, None, None, None, Some(file)) => {
+            Some(Form::AsmSteps(file, number_of(steps, MOST_STEPS)?))
+        }
         _ => None,
     }
 }
@@ -123,6 +134,7 @@ fn given_in<'a>(matches: &ArgMatches<'a>) -> Given<'a>
         make: matches.get_str("make"),
         load: matches.get_str("load"),
         litmus: matches.get_str("litmus"),
+        asm: matches.get_str("asm"),
     }
 }
 

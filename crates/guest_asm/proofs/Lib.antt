@@ -10,6 +10,11 @@ pub mod Puts
 pub mod Ordered
 pub mod LineWords
 pub mod SoFar
+pub mod Agree
+pub mod InPlace
+pub mod Headers
+pub mod Memory
+pub mod Loaded
 pub mod Segment
 pub mod Rows
 pub mod DecodedGroups

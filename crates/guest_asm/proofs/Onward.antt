@@ -1,6 +1,6 @@
 -- How far an address moves over a line.
 use Rattle.std.proofs.Common.{◌≡◌, ℕ, ◌+◌, ◌%◌, ◌≤◌, Bool, true, false, cond, ◌&&◌, leb, eqb, List, length, Option, Some, None, Result, Ok, Err, refl, arith}
-use Rattle.std.proofs.lemmas.Bool.{cond_both, leb-true}
+use Rattle.std.proofs.lemmas.Bool.{cond_both, leb-true, eqb-true}
 use Rattle.guest_asm.specs.declared.fault.AsmCause.{AsmCause}
 use Rattle.guest_asm.specs.declared.statement.Statement.{Statement}
 use Rattle.guest_asm.specs.Lines.{statement_of}
@@ -20,6 +20,10 @@ rises : (address to : ℕ) → may_move address to ≡ true → (address ≤ to)
 rises address to may =
     let both : (leb address to && leb to end) ≡ true = and-right (eqb (to % 4) 0) (leb address to && leb to end) may in
     (leb-true address to (and-left (leb address to) (leb to end) both), leb-true to end (and-right (leb address to) (leb to end) both))
+
+-- and stays a multiple of 4
+pub may_move-aligned : (address to : ℕ) → may_move address to ≡ true → (to % 4 ≡ 0) × (address ≤ to)
+may_move-aligned address to may = (eqb-true (to % 4) 0 (and-left (eqb (to % 4) 0) (leb address to && leb to end) may), (rises address to may).0)
 
 pub moved-within : (address bound : ℕ) (to : Option ℕ) → address ≤ bound → end ≤ bound → (address ≤ moved address to) × (moved address to ≤ bound)
 moved-within address bound None low high = (omega arith, low)

@@ -25,7 +25,8 @@ pub record SoFar (lines : List (List ℕ)) (n address : ℕ) (placed : List Plac
   pub words : placed ≡ words_below lines n
   pub ordered : Ordered start placed address
 
-ordered-more : (words : List Placed) (address next : ℕ) (word : Option ℕ) → address ≤ next → ((w : ℕ) → word ≡ Some w → next ≡ address + 4)
+-- the words with one more, if there is one
+pub ordered-more : (words : List Placed) (address next : ℕ) (word : Option ℕ) → address ≤ next → ((w : ℕ) → word ≡ Some w → next ≡ address + 4)
     → Ordered start words address → Ordered start (words ++ placed_at address (Ok word)) next
 ordered-more words address next None on puts o = subst (λ (ws : List Placed). Ordered start ws next) (sym (append-nil words)) (Ordered-on start words address next on o)
 ordered-more words address next (Some w) on puts o =

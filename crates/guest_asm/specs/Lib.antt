@@ -11,5 +11,7 @@ pub mod Sites
 pub mod Causes
 pub mod Image
 pub mod Assembled
+pub mod Assembly
 pub mod Listing
 pub mod Decoding
+pub mod Loading

@@ -4,7 +4,7 @@ use Rattle.std.specs.List.{flat_map, range_with_len}
 use Rattle.byteorder.specs.Endian.{big_bytes}
 use Rattle.hex.specs.Hex.{encode_lower}
 use Rattle.guest_asm.specs.declared.assembled.Placed.{Placed}
-use Rattle.guest_asm.specs.declared.assembled.Assembled.{Assembled}
+use Rattle.guest_asm.specs.Assembly.{Assembly}
 
 -- a line ends with a line feed
 abbrev pub line_end : List ℕ
@@ -28,5 +28,5 @@ row_line bytes number = encode_lower (row_of bytes number) ++ line_end
 abbrev pub rows_of : List ℕ → List ℕ
 rows_of bytes = flat_map (row_line bytes) (range_with_len 0 ((length bytes + 31) / 32))
 
-unfoldable pub listing_of : Assembled → List ℕ
-listing_of assembled = flat_map word_line assembled.words.items ++ (file_line (length assembled.image.items) ++ rows_of assembled.image.items)
+unfoldable pub listing_of : Assembly → List ℕ
+listing_of assembly = flat_map word_line assembly.words ++ (file_line (length assembly.image) ++ rows_of assembly.image)

@@ -4,6 +4,7 @@ ghost use Rattle.guest_asm.specs.Addresses as place;
 ghost use Rattle.guest_asm.specs.Causes as spec;
 ghost use Rattle.guest_asm.specs.Sites.{address_in, site_in, Answers, IsKept};
 ghost use Rattle.guest_asm.specs.Assembled.{placed_at, Assembles, WordsOf};
+ghost use Rattle.guest_asm.specs.Assembly.{assembly_of, IsAnswer};
 
 use crate::address::{END, START, behind, may_move};
 use crate::assembled::{Assembled, Placed};
@@ -181,7 +182,8 @@ fn words_of(alloc: Global, labels: &Labels, lines: &[&[u8]]) -> Result<Vec<Place
 /// A refusal is `Line` with the first line that is refused, counted from 1, and the first cause that holds on it; or `Memory`, where memory
 /// is wanting or the text has 2^27 bytes or more.
 pub fn assemble(alloc: Global, text: &[u8]) -> Result<Assembled, AsmFault>
-    ensures { Assembles text.now result }
+    ensures lines { Assembles text.now result }
+    ensures whole { IsAnswer (assembly_of text.now) result }
 {
     if text.len() >= TOO_LONG {
         return Err(AsmFault::Memory);

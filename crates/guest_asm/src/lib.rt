@@ -22,7 +22,7 @@ mod word;
 pub use assembled::{Assembled, Placed};
 pub use assembler::assemble;
 pub use fault::{AsmCause, AsmFault};
-pub use law::words_are_instructions;
+pub use law::{images_are_loaded, words_are_instructions};
 pub use listing::listing_of;
 
 #[cfg(test)]

@@ -2,6 +2,7 @@
 ghost use Rattle.std.specs.Prelude.{◌≡◌, ◌++◌, ◌*◌, ◌+◌, ◌^◌, ◌<◌, length, string_bytes, IfOk, OnOk};
 ghost use Rattle.std.specs.List.{flat_map};
 ghost use Rattle.hex.specs.Hex.{encode_lower};
+ghost use Rattle.guest_asm.specs.Assembly.{assembly_seen};
 ghost use Rattle.guest_asm.specs.Listing as spec;
 
 use crate::assembled::{Assembled, Placed};
@@ -72,7 +73,7 @@ fn put_rows(alloc: Global, text: &mut Vec<u8>, bytes: &[u8]) -> Result<(), Alloc
 /// `file image.elf LENGTH` and the image in hexadecimal, 32 bytes a line.
 #[tactic(auto, unfolding(crate::specs::Listing::listing_of))]
 pub fn listing_of(alloc: Global, assembled: &Assembled) -> Result<Vec<u8>, AllocError>
-    ensures { IfOk result (λ text. text.items ≡ spec.listing_of assembled.now) }
+    ensures { IfOk result (λ text. text.items ≡ spec.listing_of (assembly_seen assembled.now)) }
 {
     let mut text = Vec::new(alloc);
     put_words(alloc, &mut text, assembled.words.as_slice())?;

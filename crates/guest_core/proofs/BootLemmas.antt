@@ -1,13 +1,18 @@
 -- Frames that are filled with the pages of an image.
-use Rattle.std.proofs.Common.{◌≡◌, ℕ, zero, suc, ◌<◌, ◌≤◌, List, [], ◌∷◌, ◌++◌, None, length, map, replicate, get_or, refl, sym, ap, subst, arith}
-use Rattle.std.proofs.lemmas.List.{length-append, length-replicate}
+use Rattle.std.proofs.Common.{◌≡◌, ℕ, zero, suc, ◌*◌, ◌<◌, ◌≤◌, cond, List, [], ◌∷◌, ◌++◌, None, is_some, length, map, replicate, get_or, take, drop, refl, sym, ap, ◌∙◌, subst, arith}
+use Rattle.std.proofs.lemmas.List.{length-append, length-map, length-replicate}
 use Rattle.std.proofs.lemmas.List.Elements.{All-nil}
+use Rattle.std.proofs.lemmas.List.Sums.{sum_by-cons}
 use Rattle.std.specs.Prelude.{flat_map, count_by}
 use Rattle.std.specs.Global.{Box}
+use Rattle.base_words.specs.Limits.{most_processors}
 use Rattle.base_words.specs.declared.frame.Frame.{Frame}
+use Rattle.base_words.specs.declared.ids.NodeId.{NodeId}
 use Rattle.base_words.specs.declared.input.InputEntry.{InputEntry}
 use Rattle.base_words.specs.declared.page.Page.{Page}
+use Rattle.private_machine.specs.Backing.{Page as Backed}
 use Rattle.private_machine.specs.Disk.{Block}
+use Rattle.pmap_table.specs.PageMap.{is_moving}
 use Rattle.private_machine.specs.Vcpu.{started as beginning}
 use Rattle.shootdown.specs.declared.view.SidedNote.{SidedNote}
 use Rattle.elf_image.specs.Physical.{memory_of}
@@ -15,11 +20,11 @@ use Rattle.elf_image.specs.declared.image.Image.{Image}
 use Rattle.isolation_law.specs.GuestState.{idle}
 use Rattle.isolation_law.specs.Parts.{Processor}
 use Rattle.isolation_law.specs.Run.{Run}
-use Rattle.isolation_law.specs.Start.{Boot, start as started}
+use Rattle.isolation_law.specs.Start.{Found, Boot, IsBoot, page_at_start, pages_at_start, start as started}
 use Rattle.guest_course.specs.BootCalls.{AreWhole, MayBoot, given_blocks, boot_of, found_of}
 use Rattle.guest_course.specs.CourseView.{surroundings}
 use Rattle.guest_course.specs.declared.site.Around.{Around}
-use Rattle.guest_core.specs.GuestView.{is_loaded, loaded_count}
+use Rattle.guest_core.specs.GuestView.{is_loaded, loaded_count, open_count, entries_due}
 use Rattle.guest_core.specs.Kept.{Kept}
 use Rattle.guest_core.specs.Noting.{IsOwn, HoldsOf}
 use Rattle.guest_core.specs.Starting.{booted_with, filled, MayStart}
@@ -87,6 +92,22 @@ may-boot around image vcpus fs disk may whole = record {
   blocks = may.blocks;
 }
 
+-- each page has its bytes
+whole-bytes : (fs : List Frame) → AreWhole fs → length (flat_map (λ (f : Frame). f.page.value) fs) ≡ 4096 * length fs
+whole-bytes [] all = omega arith
+whole-bytes (f ∷ fs) all = omega (arith, length-append f.page.value (flat_map (λ (x : Frame). x.page.value) fs), all.0, whole-bytes fs all.1)
+
+pub is-boot : (around : Around) (image : Image) (vcpus : ℕ) (fs : List Frame) (disk : List Block) (input : List InputEntry) → MayStart around image vcpus fs disk → AreWhole (filled fs image.pages) → IsBoot (booted_with around image vcpus fs disk input)
+is-boot around image vcpus fs disk input may whole =
+    let pages = length-filled fs image.pages (let e = may.backed in omega arith) in
+    record {
+      has_vcpu = may.some_vcpus;
+      few_processors = subst (λ (n : ℕ). n ≤ most_processors) (sym (length-map around.site.processors (λ (n : NodeId). n.0))) may.few_processors;
+      backed = length-map fs found_of ∙ may.backed;
+      whole = ap length (sym (bytes-filled fs image.pages may.backed)) ∙ whole-bytes (filled fs image.pages) whole ∙ ap (λ (n : ℕ). 4096 * n) pages;
+      blocks = may.blocks;
+    }
+
 -- ---- a guest at its start
 
 at-replicate : {A : Type 0} (n p : ℕ) (a : A) → get_or (replicate n a) p a ≡ a
@@ -98,8 +119,19 @@ none-loaded : (n : ℕ) → count_by is_loaded (replicate n idle) ≡ 0
 none-loaded zero = refl
 none-loaded (suc n) = let here : one idle.loaded ≡ 0 = refl in omega (arith, here, count_by-cons idle (replicate n idle), none-loaded n)
 
-pub no-loads : (b : Boot) → loaded_count (started b) ≡ 0
+no-loads : (b : Boot) → loaded_count (started b) ≡ 0
 no-loads b = none-loaded (length b.around.processors)
+
+none-moving : (fs : List Found) (memory : List ℕ) → count_by is_moving (pages_at_start fs memory) ≡ 0
+none-moving [] memory = refl
+none-moving (f ∷ fs) memory =
+    let here = sum_by-cons (λ (g : Backed). cond {A = ℕ} (is_some g.move) 1 0) (page_at_start f (take 4096 memory)) (pages_at_start fs (drop 4096 memory)) in
+    let rest = none-moving fs (drop 4096 memory) in omega arith
+
+pub nothing-due : (b : Boot) → entries_due (started b) ≡ 0
+nothing-due b =
+    let moves : open_count (started b) ≡ 0 = none-moving b.frames b.image.memory in
+    omega (arith, no-loads b, moves)
 
 pub kept-start : (b : Boot) → Run (started b) [] (started b) → Kept b (started b) [] []
 kept-start b none = record {

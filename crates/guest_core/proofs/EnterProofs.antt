@@ -1,6 +1,6 @@
 -- A turn's entries, and what is kept after them.
-use Rattle.std.proofs.Common.{◌≡◌, inl, ◌<◌, Bool, true, false, List, [], ◌∷◌, ◌++◌, Some, None, length, refl, sym, ap, ◌∙◌, if◌then◌else◌, subst}
-use Rattle.std.proofs.lemmas.List.{append_assoc}
+use Rattle.std.proofs.Common.{◌≡◌, inl, ◌<◌, ◌≤◌, Bool, true, false, List, [], ◌∷◌, ◌++◌, Some, None, length, refl, sym, ap, ◌∙◌, if◌then◌else◌, subst, arith}
+use Rattle.std.proofs.lemmas.List.{append-nil, append_assoc}
 use Rattle.base_words.specs.declared.events.Event.{Event}
 use Rattle.base_words.specs.declared.events.Event.TheVariants.{Direct, Refill, Emulate, End as Ending}
 use Rattle.base_words.specs.declared.events.End.TheVariants.{Halted as ByHalt}
@@ -9,7 +9,7 @@ use Rattle.base_words.specs.declared.ids.VcpuId.{VcpuId}
 use Rattle.base_words.specs.declared.moves.Policy.{Policy}
 use Rattle.shootdown.specs.declared.notes.Note.TheVariants.{Made}
 use Rattle.shootdown.specs.declared.view.SidedNote.{SidedNote}
-use Rattle.shootdown.specs.Notes.{Seat, sided}
+use Rattle.shootdown.specs.Notes.{Seat, Token, sided}
 use Rattle.isolation_law.specs.GuestState.{GuestState}
 use Rattle.isolation_law.specs.MachineEvent.{Row}
 use Rattle.isolation_law.specs.Phases.{all_halted, GoesOn}
@@ -17,14 +17,16 @@ use Rattle.isolation_law.specs.RefillRow.{Refills}
 use Rattle.isolation_law.specs.Run.{Run}
 use Rattle.isolation_law.specs.Start.{Boot}
 use Rattle.isolation_law.specs.StepRows.{Steps, Emulates}
-use Rattle.guest_core.specs.GuestCalls.{step_entries, end_of, Makes, SendsOut, TurnsEmulate}
-use Rattle.guest_core.specs.GuestView.{Monitored, loaded_count}
+use Rattle.guest_core.specs.GuestCalls.{Learns, step_entries, end_of, SendsOut, TurnsEmulate}
+use Rattle.guest_core.specs.Making.{Makes}
+use Rattle.guest_core.specs.MoveCalls.{IsAtRest, ReadsFree}
+use Rattle.guest_core.specs.GuestView.{Monitored, entries_due}
 use Rattle.guest_course.specs.CourseView.{state_of}
 use Rattle.guest_core.specs.declared.parts.Parts.{Parts}
 use Rattle.guest_core.specs.Kept.{Kept, IsKept}
 use Rattle.guest_core.specs.TurnParts.{Concludes}
-use Rattle.guest_core.specs.Laws.{RowLaws, RunLaws}
-use Rattle.guest_core.proofs.KeptProofs.{IsOff, kept-one, kept-none, direct-leaves, refill-leaves, emulate-leaves, emulate-end, end-leaves, as-many}
+use Rattle.guest_core.specs.Laws.{MoveLaws, RowLaws, RunLaws}
+use Rattle.guest_core.proofs.KeptProofs.{IsOff, kept-one, kept-none, direct-leaves, refill-leaves, emulate-leaves, emulate-end, end-leaves, end-due}
 
 pub kept-direct : RowLaws → RunLaws → (b : Boot) (s t : GuestState) (journal : List Event) (notes : List SidedNote) (p : ProcId) (v : VcpuId) → IsOff b.around.policy → Kept b s journal notes → p.0 < length s.processors
     → Steps s p.0 v.0 t → Kept b t (journal ++ Direct p v ∷ []) (notes ++ sided p.0 (Made (Direct p v)) ∷ [])
@@ -59,13 +61,14 @@ pub noted-kept : (g : Parts) (seat : Seat) (n : SidedNote) → IsKept g → seat
 noted-kept g seat n k is kept = record {
   sound = k.sound;
   seat = ap (λ (x : Seat). x.number) is ∙ k.seat;
+  booted = k.booted;
   kept = of-these g.start (state_of g.course) _ _ _ _ refl (ap (λ (x : Seat). x.notes) is) kept;
   goes_on = k.goes_on;
   frames = k.frames;
   used = k.used;
   at_home = k.at_home;
   no_policy = k.no_policy;
-  unloads = k.unloads;
+  owed = k.owed;
   few_guests = k.few_guests;
   wired = k.wired;
   posted = k.posted;
@@ -88,9 +91,9 @@ pub ends-so : (halted : Bool) (m t : GuestState) → m.end ≡ None → Conclude
 ends-so true m t on is = ap (λ (x : GuestState). x.end) is.after
 ends-so false m t on is = ap (λ (x : GuestState). x.end) is ∙ on
 
-pub same-loads : (halted : Bool) → RowLaws → (m t : GuestState) → Concludes halted m t → loaded_count t ≡ loaded_count m
-same-loads true w m t is = as-many w m t (Ending ByHalt) is (λ r. refl)
-same-loads false w m t is = ap loaded_count is
+pub concluded-due : (halted : Bool) → RowLaws → MoveLaws → (m t : GuestState) → Concludes halted m t → entries_due t ≤ entries_due m
+concluded-due true w v m t is = end-due w v m t ByHalt is
+concluded-due false w v m t is = omega (arith, ap entries_due is)
 
 -- ---- what a turn made
 
@@ -101,13 +104,22 @@ step-run : (halted : Bool) (s m t : GuestState) (p : ProcId) (v : VcpuId) → Em
 step-run true s m t p v row is = (s, m, inl refl, inl row, (m, t, inl refl, is, inl refl))
 step-run false s m t p v row is = (s, m, inl refl, inl row, inl is)
 
-pub emulate-turn : (halted : Bool) (old new : Monitored) (m : GuestState) (p : ProcId) (v : VcpuId) → all_halted m.vcpus ≡ halted → Emulates old.state p.0 v.0 m → Concludes halted m new.state
+pub emulate-turn : (halted : Bool) (old new : Monitored) (m : GuestState) (p : ProcId) (v : VcpuId) → all_halted m.vcpus ≡ halted → IsAtRest old.state p.0 → ReadsFree old.state v.0 → Emulates old.state p.0 v.0 m → Concludes halted m new.state
     → new.journal ≡ old.journal ++ step_entries p v halted → SendsOut old new → TurnsEmulate old p v new
-emulate-turn halted old new m p v all row is journal sends =
+emulate-turn halted old new m p v all rest free row is journal sends =
     let same : all_halted new.state.vcpus ≡ halted = ap all_halted (same-vcpus halted m new.state is) ∙ all in
     let done : Makes old (step_entries p v halted) new = record { journal = journal; run = step-run halted old.state m new.state p v row is } in
     record {
+      rest = rest;
+      free = free;
       makes = subst (λ (h : Bool). Makes old (step_entries p v h) new) (sym same) done;
       end = ends-so halted m new.state (emulate-end old.state m p.0 v.0 row) is ∙ ap end_of (sym same);
       sends = sends;
     }
+
+-- nothing is noted
+pub learns-none : (old new : Monitored) (token : Token) → new.notes ≡ old.notes → Learns old token [] new token
+learns-none old new token same = record {
+  seat = same ∙ sym (append-nil old.notes);
+  token_is = ap (λ (l : List SidedNote). record token { notes = l }) (sym (append-nil token.notes));
+}

@@ -1,39 +1,43 @@
 -- What an entry leaves of what the type of a guest keeps.
-use Rattle.std.proofs.Common.{◌≡◌, inl, ℕ, zero, suc, ◌<◌, if◌then◌else◌, Bool, true, false, List, [], ◌∷◌, ◌++◌, Option, Some, None, option_map, length, map, get_or, set, refl, sym, ap, ◌∙◌, subst}
+use Rattle.std.proofs.Common.{◌≡◌, inl, ℕ, zero, suc, ◌<◌, ◌≤◌, if◌then◌else◌, Bool, true, false, List, [], ◌∷◌, ◌++◌, Option, Some, None, option_map, length, map, get_or, set, refl, sym, ap, ◌∙◌, subst, arith}
 use Rattle.std.specs.Prelude.{All}
 use Rattle.std.proofs.lemmas.List.{append-nil}
 use Rattle.std.proofs.lemmas.List.Elements.{All-nil, All-cons}
 use Rattle.base_words.specs.declared.events.Event.{Event}
-use Rattle.base_words.specs.declared.events.Event.TheVariants.{Direct, Refill, Emulate, Load, Unload, PacketIn, End as Ending}
+use Rattle.base_words.specs.declared.events.Event.TheVariants.{Direct, Refill, Emulate, Begin, Ack, Finish, Load, Unload, PacketIn, Skip, End as Ending}
 use Rattle.base_words.specs.declared.events.End.{End}
+use Rattle.base_words.specs.declared.ids.NodeId.{NodeId}
+use Rattle.base_words.specs.declared.ids.Ppn.{Ppn}
 use Rattle.base_words.specs.declared.ids.ProcId.{ProcId}
 use Rattle.base_words.specs.declared.ids.VcpuId.{VcpuId}
+use Rattle.base_words.specs.declared.moves.By.{By}
 use Rattle.base_words.specs.declared.moves.MoveKind.{MoveKind}
 use Rattle.base_words.specs.declared.moves.Policy.{Policy}
 use Rattle.base_words.specs.declared.trap.DataAccess.{DataAccess}
 use Rattle.base_words.specs.declared.trap.DataAccess.TheVariants as at_data
-use Rattle.private_machine.specs.Backing.{Page}
 use Rattle.private_machine.specs.DeviceAct.{Act, StoresTo, ReadsDisk, WritesDisk, SendsPage, WritesEntry, NoAct}
 use Rattle.private_machine.specs.Policy.{Misses, choice}
 use Rattle.shootdown.specs.declared.view.SidedNote.{SidedNote}
-use Rattle.isolation_law.specs.Dues.{without_moving}
+use Rattle.isolation_law.specs.Dues.{without_due, without_moving}
 use Rattle.isolation_law.specs.DirectStep.{data_noted, is_miss, misses_after}
 use Rattle.isolation_law.specs.EndRows.{Ends}
 use Rattle.isolation_law.specs.GuestState.{GuestState, processor, due_on}
-use Rattle.isolation_law.specs.LoadRows.{Loads, Unloads}
+use Rattle.isolation_law.specs.LoadRows.{Loads, Unloads, Acks}
 use Rattle.isolation_law.specs.LoadsIn.{loaded_after}
 use Rattle.isolation_law.specs.MachineEvent.{Row}
+use Rattle.isolation_law.specs.MoveRows.{Begins, Finishes}
 use Rattle.isolation_law.specs.PacketRows.{Receives}
 use Rattle.isolation_law.specs.Parts.{Wish}
 use Rattle.isolation_law.specs.Policy.{chosen, due_after}
 use Rattle.isolation_law.specs.RefillRow.{Refills}
+use Rattle.isolation_law.specs.SkipRow.{Skips}
 use Rattle.isolation_law.specs.Start.{Boot, start as started}
 use Rattle.isolation_law.specs.StepRows.{Steps, Emulates, act_done}
-use Rattle.guest_core.specs.GuestView.{loaded_count}
+use Rattle.guest_core.specs.GuestView.{loaded_count, entries_due}
 use Rattle.guest_core.specs.Kept.{Kept}
 use Rattle.guest_core.specs.EntryNotes.{note_of_entry, IsAnswer}
 use Rattle.guest_core.specs.Noting.{HoldsOf}
-use Rattle.guest_core.specs.Laws.{RowLaws, RunLaws}
+use Rattle.guest_core.specs.Laws.{MoveLaws, RowLaws, RunLaws}
 use Rattle.guest_core.proofs.CountLemmas.{count-same, count-loaded, count-unloaded}
 use Rattle.guest_core.proofs.NoteLemmas.{noted-entry, noted-answer}
 
@@ -94,10 +98,10 @@ due-set (x ∷ dues) zero (suc r) is = is
 due-set (x ∷ dues) (suc p) zero is = is
 due-set (x ∷ dues) (suc p) (suc r) is = due-set dues p r is
 
-due-map : (pages : List Page) (dues : List (Option Wish)) (r : ℕ) → get_or dues r None ≡ None → get_or (map (without_moving pages) dues) r None ≡ None
-due-map pages [] r is = refl
-due-map pages (x ∷ dues) zero is = ap (without_moving pages) is
-due-map pages (x ∷ dues) (suc r) is = due-map pages dues r is
+due-map : (change : Option Wish → Option Wish) → change None ≡ None → (dues : List (Option Wish)) (r : ℕ) → get_or dues r None ≡ None → get_or (map change dues) r None ≡ None
+due-map change none [] r is = refl
+due-map change none (x ∷ dues) zero is = ap change is ∙ none
+due-map change none (x ∷ dues) (suc r) is = due-map change none dues r is
 
 -- a policy that is off chooses nothing
 chooses-none : (policy : Policy) (node : ℕ) (m : Misses) → IsOff policy → choice policy node m ≡ None
@@ -158,11 +162,20 @@ emulate-leaves s t p v row none = record {
 pub emulate-end : (s t : GuestState) (p v : ℕ) → Emulates s p v t → t.end ≡ None
 emulate-end s t p v row = ap (λ x. x.end) row.after ∙ act-end s p v _ ∙ row.traps.goes_on.not_ended
 
+pub begin-leaves : (s t : GuestState) (q : Ppn) (kind : MoveKind) (node : NodeId) (by : By) → Begins s q.0 kind node.0 by t → ((r : ℕ) → due_on s r ≡ None) → Leaves s (Begin q kind node by) t
+begin-leaves s t q kind node by row none = record { row = row; due = λ r. ap (λ x. due_on x r) row.after ∙ due-map (without_due q.0) refl s.due r (none r) }
+
+pub ack-leaves : (s t : GuestState) (p : ProcId) (q : Ppn) → Acks s p.0 q.0 t → ((r : ℕ) → due_on s r ≡ None) → Leaves s (Ack p q) t
+ack-leaves s t p q row none = record { row = row; due = λ r. ap (λ x. due_on x r) row.after ∙ none r }
+
+pub finish-leaves : (s t : GuestState) (q : Ppn) → Finishes s q.0 t → ((r : ℕ) → due_on s r ≡ None) → Leaves s (Finish q) t
+finish-leaves s t q row none = record { row = inl row; due = λ r. ap (λ x. due_on x r) row.after ∙ due-map (without_due q.0) refl s.due r (none r) }
+
 pub receive-leaves : (s t : GuestState) (k : ℕ) → Receives s k t → ((r : ℕ) → due_on s r ≡ None) → Leaves s (PacketIn k) t
 receive-leaves s t k row none = record { row = inl row; due = λ r. ap (λ x. due_on x r) row.after ∙ none r }
 
 pub end-leaves : (s t : GuestState) (end : End) → Ends s end t → ((r : ℕ) → due_on s r ≡ None) → Leaves s (Ending end) t
-end-leaves s t end row none = record { row = row; due = λ r. ap (λ x. due_on x r) row.after ∙ due-map s.pages s.due r (none r) }
+end-leaves s t end row none = record { row = row; due = λ r. ap (λ x. due_on x r) row.after ∙ due-map (without_moving s.pages) refl s.due r (none r) }
 
 -- ---- what is loaded
 
@@ -178,3 +191,39 @@ one-more w s t p v row = count-loaded s.processors t.processors p.0 v.0 row.is_p
 
 pub as-many : RowLaws → (s t : GuestState) (e : Event) → Row s e t → ((r : ℕ) → loaded_after e r (processor s r).loaded ≡ (processor s r).loaded) → loaded_count t ≡ loaded_count s
 as-many w s t e row same = count-same s.processors t.processors (w.processors s t e row) (λ r. w.loaded s t e r row ∙ same r)
+
+-- ---- which entries are still to come
+
+pub load-due : RowLaws → MoveLaws → (s t : GuestState) (p : ProcId) (v : VcpuId) → Loads s p.0 v.0 t → entries_due t ≡ suc (entries_due s)
+load-due w m s t p v row = omega (arith, one-more w s t p v row, m.loads s t p.0 v.0 row)
+
+pub unload-due : RowLaws → MoveLaws → (s t : GuestState) (p : ProcId) → Unloads s p.0 t → p.0 < length s.processors → suc (entries_due t) ≡ entries_due s
+unload-due w m s t p row lt = omega (arith, one-fewer w s t p row lt, m.unloads s t p.0 row)
+
+pub direct-due : RowLaws → MoveLaws → (s t : GuestState) (p : ProcId) (v : VcpuId) → Steps s p.0 v.0 t → entries_due t ≡ entries_due s
+direct-due w m s t p v row = omega (arith, as-many w s t (Direct p v) row (λ r. refl), m.steps s t p.0 v.0 row)
+
+pub refill-due : RowLaws → MoveLaws → (s t : GuestState) (p : ProcId) → Refills s p.0 t → entries_due t ≡ entries_due s
+refill-due w m s t p row = omega (arith, as-many w s t (Refill p) row (λ r. refl), m.refills s t p.0 row)
+
+pub emulate-due : RowLaws → MoveLaws → (s t : GuestState) (p : ProcId) (v : VcpuId) → Emulates s p.0 v.0 t → entries_due t ≡ entries_due s
+emulate-due w m s t p v row = omega (arith, as-many w s t (Emulate p v) (inl row) (λ r. refl), m.emulates s t p.0 v.0 row)
+
+pub begin-due : RowLaws → MoveLaws → (s t : GuestState) (q : Ppn) (kind : MoveKind) (node : NodeId) (by : By) → Begins s q.0 kind node.0 by t → entries_due t ≡ suc (entries_due s)
+begin-due w m s t q kind node by row = omega (arith, as-many w s t (Begin q kind node by) row (λ r. refl), m.begins s t q.0 kind node.0 by row)
+
+pub ack-due : RowLaws → MoveLaws → (s t : GuestState) (p : ProcId) (q : Ppn) → Acks s p.0 q.0 t → entries_due t ≡ entries_due s
+ack-due w m s t p q row = omega (arith, as-many w s t (Ack p q) row (λ r. refl), m.acks s t p.0 q.0 row)
+
+pub finish-due : RowLaws → MoveLaws → (s t : GuestState) (q : Ppn) → Finishes s q.0 t → suc (entries_due t) ≡ entries_due s
+finish-due w m s t q row = omega (arith, as-many w s t (Finish q) (inl row) (λ r. refl), m.finishes s t q.0 row)
+
+pub receive-due : RowLaws → MoveLaws → (s t : GuestState) (k : ℕ) → Receives s k t → entries_due t ≡ entries_due s
+receive-due w m s t k row = omega (arith, as-many w s t (PacketIn k) (inl row) (λ r. refl), m.receives s t k row)
+
+pub skip-due : RowLaws → MoveLaws → (s t : GuestState) (k : ℕ) → Skips s k t → entries_due t ≡ entries_due s
+skip-due w m s t k row = omega (arith, as-many w s t (Skip k) row (λ r. refl), m.skips s t k row)
+
+-- no page is left at the end
+pub end-due : RowLaws → MoveLaws → (s t : GuestState) (end : End) → Ends s end t → entries_due t ≤ entries_due s
+end-due w m s t end row = omega (arith, as-many w s t (Ending end) row (λ r. refl), m.ends s t end row)

@@ -2,6 +2,8 @@ pub mod Crossing
 pub mod NoteLemmas
 pub mod CountLemmas
 pub mod BootLemmas
+pub mod CopyLemmas
+pub mod FoundLemmas
 pub mod HoldingLemmas
 pub mod ShapeLemmas
 pub mod ReleaseLemmas
@@ -13,4 +15,14 @@ pub mod WiringProofs
 pub mod HandProofs
 pub mod LoadedCells
 pub mod UsingProofs
+pub mod CountedCopies
 pub mod UseTells
+pub mod SpreadLemmas
+pub mod CauseLemmas
+pub mod MoveLemmas
+pub mod OpenCounts
+pub mod GainLemmas
+pub mod AskLemmas
+pub mod PacketLemmas
+pub mod DoneLemmas
+pub mod EndLemmas

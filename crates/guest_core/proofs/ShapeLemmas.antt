@@ -5,12 +5,17 @@ use Rattle.std.proofs.lemmas.List.Elements.{All-from_get_or}
 use Rattle.std.proofs.lemmas.Nat.{div_below}
 use Rattle.base_words.specs.declared.ids.CellId.{CellId}
 use Rattle.frame_words.specs.Holders.{MadeTable}
-use Rattle.node_frames.specs.Layout.{layout_of}
+use Rattle.node_frames.specs.Layout.{Layout, layout_of}
 use Rattle.node_frames.specs.Places.{FitsShape, cell_of_node as layout_cell}
+use Rattle.isolation_law.specs.Surroundings.{Surroundings, cell_of_node}
 use Rattle.guest_course.specs.CourseView.{surroundings}
 use Rattle.guest_course.specs.declared.site.Around.{Around}
 use Rattle.guest_core.specs.Holding.{FitsAround, frames_around}
-use Rattle.guest_core.proofs.HoldingLemmas.{IsLayoutOf}
+
+-- the layout is that of the machine around the guest
+pub record IsLayoutOf (layout : Layout) (w : Surroundings) : Type 0 where
+  pub frames : layout.frames ≡ w.frames
+  pub cells : (node : ℕ) → layout_cell layout node ≡ cell_of_node w node
 
 pub cell-at : (cells : List CellId) (n : ℕ) → (get_or cells n (record { 0 = 0 })).0 ≡ get_or (map (λ (c : CellId). c.0) cells) n 0
 cell-at [] n = refl
@@ -32,11 +37,15 @@ shape-fits table a fits = record {
       (λ i lt. subst (λ (n : ℕ). n < length table.terms.lends) (sym (cell-at a.site.shape.cells i)) (fits.cells i (subst (λ (n : ℕ). i < n) (sym (length-map a.site.shape.cells (λ (c : CellId). c.0))) lt)));
 }
 
--- a frame of the machine lies on one of eight cells
+-- a node of the machine is of one of eight cells
+pub cell-low : (table : MadeTable) (a : Around) (node : ℕ) → FitsAround table (surroundings a) → node < length (surroundings a).nodes → layout_cell (layout_of a.site.shape) node < 8
+cell-low table a node fits lt =
+    let cell = fits.cells node lt in
+    let few = table.terms.few_cells in
+    subst (λ (n : ℕ). n < 8) (sym (cell-at a.site.shape.cells node)) (omega arith)
+
+-- and so is that of a frame
 pub frame-low : (table : MadeTable) (a : Around) (frame : ℕ) → FitsAround table (surroundings a) → frame < frames_around (surroundings a) → layout_cell (layout_of a.site.shape) (frame / a.site.shape.frames) < 8
 frame-low table a frame fits lt =
     let shape = a.site.shape in
-    let node : frame / shape.frames < length (surroundings a).nodes = div_below frame shape.frames (length (surroundings a).nodes) shape.has_frames lt in
-    let cell = fits.cells (frame / shape.frames) node in
-    let few = table.terms.few_cells in
-    subst (λ (n : ℕ). n < 8) (sym (cell-at shape.cells (frame / shape.frames))) (omega arith)
+    cell-low table a (frame / shape.frames) fits (div_below frame shape.frames (length (surroundings a).nodes) shape.has_frames lt)

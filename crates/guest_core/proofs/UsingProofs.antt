@@ -37,7 +37,7 @@ use Rattle.guest_core.proofs.LoadedCells.{cell_at, cells-same, cells-set, cells-
 -- ---- over an entry that takes and gives no frame
 
 -- frames of a cell, by their copies
-frames-counted : (shape : Shape) (q : ℕ) (cs : List Copy) → frames_in shape q (map frame_of cs) ≡ count_of (λ frame generation. lies shape q (record { 0 = frame })) cs
+pub frames-counted : (shape : Shape) (q : ℕ) (cs : List Copy) → frames_in shape q (map frame_of cs) ≡ count_of (λ frame generation. lies shape q (record { 0 = frame })) cs
 frames-counted shape q [] = refl
 frames-counted shape q (c ∷ cs) =
     sum_by-cons (λ (f : FrameNo). cond {A = ℕ} (lies shape q f) 1 0) (frame_of c) (map frame_of cs)
@@ -48,7 +48,7 @@ as-many-frames : (s t : GuestState) → Exchanged s t [] [] → (shape : Shape) 
 as-many-frames s t ex shape q = frames-counted shape q (held t) ∙ same-count s t ex (λ frame generation. lies shape q (record { 0 = frame })) ∙ sym (frames-counted shape q (held s))
 
 -- counted from other rows with as many frames of each cell
-recounted : (shape : Shape) (rows other : Rows) (uses : UsesState) → ((q : ℕ) → frames_in shape q other.frames ≡ frames_in shape q rows.frames) → other.loaded ≡ rows.loaded → AreCounts shape rows uses → AreCounts shape other uses
+pub recounted : (shape : Shape) (rows other : Rows) (uses : UsesState) → ((q : ℕ) → frames_in shape q other.frames ≡ frames_in shape q rows.frames) → other.loaded ≡ rows.loaded → AreCounts shape rows uses → AreCounts shape other uses
 recounted shape rows other uses frames loaded are = record {
   frames = λ q within. are.frames q within ∙ sym (frames q);
   vcpus = λ q within. are.vcpus q within ∙ ap (vcpus_in q) (sym loaded);

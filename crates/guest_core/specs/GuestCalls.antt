@@ -13,7 +13,6 @@ use Rattle.shootdown.specs.declared.notes.Note.TheVariants.{Made, Halted, Ended}
 use Rattle.shootdown.specs.Notes.{Token, sided}
 use Rattle.isolation_law.specs.GuestState.{processor, vcpu_of}
 use Rattle.isolation_law.specs.Phases.{all_halted}
-use Rattle.isolation_law.specs.Run.{Run}
 use Rattle.isolation_law.specs.StepAct.{at_hand}
 use Rattle.isolation_law.specs.WireHistory.{sent_to}
 use Rattle.guest_course.specs.declared.posting.Outgoing.{Outgoing}
@@ -21,27 +20,13 @@ use Rattle.guest_course.specs.Posting.{IsOther, put_on}
 use Rattle.guest_course.specs.StepCalls.{StepsDirect}
 use Rattle.guest_course.specs.Wanting.{TakesMemory}
 use Rattle.guest_core.specs.GuestView.{Monitored, IsSameGuest}
+use Rattle.guest_core.specs.Making.{Makes, MakesAlone, Rests}
+use Rattle.guest_core.specs.MoveCalls.{IsAtRest, ReadsFree, Acknowledges, FinishesLowest, WaitsForMove, BeginsForStep}
 use Rattle.guest_core.specs.Wiring.{SentOn}
 use Rattle.guest_core.specs.declared.answers.Loaded.{Loaded}
 use Rattle.guest_core.specs.declared.answers.Loaded.TheVariants as loaded
 use Rattle.guest_core.specs.declared.answers.Turn.{Turn}
 use Rattle.guest_core.specs.declared.answers.Turn.TheVariants as turn
-
--- the journal gained these entries, and they lead from the old state to the new one
-pub record Makes (old : Monitored) (entries : List Event) (new : Monitored) : Type 0 where
-  pub journal : new.journal ≡ old.journal ++ entries
-  pub run : Run old.state entries new.state
-
--- no entry was made, and nothing was taken or given back
-pub record Stays (old new : Monitored) : Type 0 where
-  pub journal : new.journal ≡ old.journal
-  pub state : new.state ≡ old.state
-  pub view : new.view ≡ old.view
-
--- nor did the ends of the wires change
-pub record Rests (old new : Monitored) : Type 0 where
-  pub stays : Stays old new
-  pub passes : new.passes ≡ old.passes
 
 -- the seat's notes and the token's grew by these
 pub record Learns (old : Monitored) (token : Token) (told : List Note) (new : Monitored) (token_after : Token) : Type 0 where
@@ -84,11 +69,6 @@ pub record HasEnded (old : Monitored) (end : End) (new : Monitored) : Type 0 whe
   pub ended : old.state.end ≡ Some end
   pub rests : Rests old new
 
--- these entries were made, and the ends of the wires stay
-pub record MakesAlone (old : Monitored) (entries : List Event) (new : Monitored) : Type 0 where
-  pub makes : Makes old entries new
-  pub passes : new.passes ≡ old.passes
-
 abbrev pub LoadsVcpu : Monitored → ProcId → VcpuId → Monitored → Loaded → Type 0
 LoadsVcpu old p v new loaded.Done = MakesAlone old (Load p v ∷ []) new
 LoadsVcpu old p v new (loaded.On q) = IsLoadedOn old v.0 q.0 new
@@ -103,6 +83,7 @@ told_of_load p v (loaded.Ended end) = Ended end ∷ []
 
 -- the processor made the step by itself, with these accesses
 pub record TurnsDirect (old : Monitored) (p : ProcId) (v : VcpuId) (access : Access) (new : Monitored) : Type 0 where
+  pub rest : IsAtRest old.state p.0
   pub makes : MakesAlone old (Direct p v ∷ []) new
   pub direct : StepsDirect old.state p.0 v.0 new.state access
 
@@ -121,12 +102,20 @@ pub record SendsOut (old new : Monitored) : Type 0 where
   pub sent : SentOn old.passes out new.passes
 
 pub record TurnsEmulate (old : Monitored) (p : ProcId) (v : VcpuId) (new : Monitored) : Type 0 where
+  pub rest : IsAtRest old.state p.0
+  pub free : ReadsFree old.state v.0
   pub makes : Makes old (step_entries p v (all_halted new.state.vcpus)) new
   pub end : new.state.end ≡ end_of (all_halted new.state.vcpus)
   pub sends : SendsOut old new
 
+-- the processor's TLB got a half
+pub record TurnsRefill (old : Monitored) (p : ProcId) (new : Monitored) : Type 0 where
+  pub rest : IsAtRest old.state p.0
+  pub makes : MakesAlone old (Refill p ∷ []) new
+
 -- the virtual processor that is loaded has halted
-pub record HasHalted (old : Monitored) (v : ℕ) (new : Monitored) : Type 0 where
+pub record HasHalted (old : Monitored) (p v : ℕ) (new : Monitored) : Type 0 where
+  pub rest : IsAtRest old.state p
   pub not_ended : old.state.end ≡ None
   pub halted : (vcpu_of old.state v).halted ≡ true
   pub rests : Rests old new
@@ -139,8 +128,12 @@ pub record WantsMemory (old : Monitored) (v : ℕ) (new : Monitored) : Type 0 wh
 abbrev pub TurnAnswers : Monitored → ProcId → VcpuId → Monitored → Turn → Type 0
 TurnAnswers old p v new (turn.Stepped (Some access)) = TurnsDirect old p v access new
 TurnAnswers old p v new (turn.Stepped None) = TurnsEmulate old p v new
-TurnAnswers old p v new turn.Refilled = MakesAlone old (Refill p ∷ []) new
-TurnAnswers old p v new turn.VcpuHalted = HasHalted old v.0 new
+TurnAnswers old p v new turn.Refilled = TurnsRefill old p new
+TurnAnswers old p v new (turn.Acked q) = Acknowledges old p q new
+TurnAnswers old p v new (turn.Begun q) = BeginsForStep old p v q new
+TurnAnswers old p v new (turn.Finished q) = FinishesLowest old p q new
+TurnAnswers old p v new (turn.Waits q waiting) = WaitsForMove old p v q waiting new
+TurnAnswers old p v new turn.VcpuHalted = HasHalted old p.0 v.0 new
 TurnAnswers old p v new (turn.GuestEnded end) = HasEnded old end new
 
 -- a turn of the virtual processor that is loaded
@@ -152,6 +145,10 @@ abbrev pub told_of_turn : ProcId → VcpuId → Result Turn AllocError → List 
 told_of_turn p v (Ok (turn.Stepped (Some access))) = Made (Direct p v) ∷ []
 told_of_turn p v (Ok (turn.Stepped None)) = Made (Emulate p v) ∷ []
 told_of_turn p v (Ok turn.Refilled) = []
+told_of_turn p v (Ok (turn.Acked q)) = []
+told_of_turn p v (Ok (turn.Begun q)) = []
+told_of_turn p v (Ok (turn.Finished q)) = []
+told_of_turn p v (Ok (turn.Waits q waiting)) = []
 told_of_turn p v (Ok turn.VcpuHalted) = Halted v ∷ []
 told_of_turn p v (Ok (turn.GuestEnded end)) = Ended end ∷ []
 told_of_turn p v (Err e) = []

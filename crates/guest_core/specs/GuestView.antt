@@ -1,5 +1,5 @@
 -- How contracts see a guest.
-use Rattle.std.specs.Prelude.{◌≡◌, ℕ, ◌-◌, ◌*◌, min, List, [], Bool, count_by, is_some}
+use Rattle.std.specs.Prelude.{◌≡◌, ℕ, ◌+◌, ◌-◌, ◌*◌, min, List, [], Bool, count_by, is_some}
 use Rattle.std.specs.Vec.{vec_len, vec_capacity}
 use Rattle.atomic_table.specs.Seated.{TableId}
 use Rattle.base_words.specs.declared.events.Event.{Event}
@@ -13,6 +13,7 @@ use Rattle.wire_queue.specs.Between.{Made}
 use Rattle.wire_queue.specs.declared.lists.PassList.{PassList}
 use Rattle.guest_course.specs.declared.course.Course.{Course}
 use Rattle.guest_course.specs.CourseView.{state_of}
+use Rattle.pmap_table.specs.PageMap.{is_moving}
 use Rattle.guest_core.specs.declared.parts.Parts.{Parts}
 use Rattle.guest_core.specs.declared.resources.Resources.{Resources}
 use Rattle.guest_core.specs.Holding.{FitsAround}
@@ -39,13 +40,28 @@ is_loaded p = is_some p.loaded
 abbrev pub loaded_count : GuestState → ℕ
 loaded_count s = count_by is_loaded s.processors
 
--- for how many calls all but the journal has room: each may print a byte, send a packet, with its cell, and receive one
-abbrev pub calls_room : Course → ℕ
-calls_room c = min (min (min c.devs.print_room c.devs.send_room) (vec_capacity c.sent_from - vec_len c.sent_from)) (vec_capacity c.received - vec_len c.received)
+-- how many pages have a move that isn't over
+abbrev pub open_count : GuestState → ℕ
+open_count s = count_by is_moving s.pages
 
--- the journal's free places that no later unload needs, or twice the calls for which there is room, whichever is less
+-- how many entries are still to come: an unload of each virtual processor that is loaded, and the end of each open move
+abbrev pub entries_due : GuestState → ℕ
+entries_due s = loaded_count s + open_count s
+
+-- for how many calls all but the journal has room: each may print a byte, send a packet, with its cell, receive one, begin a move, and
+-- note one that isn't begun
+abbrev pub packets_room : Course → ℕ
+packets_room c = min (vec_capacity c.sent_from - vec_len c.sent_from) (vec_capacity c.received - vec_len c.received)
+
+abbrev pub moves_room : Course → ℕ
+moves_room c = min c.pmap.room (vec_capacity c.skips - vec_len c.skips)
+
+abbrev pub calls_room : Course → ℕ
+calls_room c = min (min c.devs.print_room c.devs.send_room) (min (packets_room c) (moves_room c))
+
+-- the journal's free places that no entry needs that is still to come, or twice the calls for which there is room, whichever is less
 abbrev pub room_of : ℕ → Course → ℕ
-room_of free c = min (free - loaded_count (state_of c)) (2 * calls_room c)
+room_of free c = min (free - entries_due (state_of c)) (2 * calls_room c)
 
 abbrev pub guest_of : Parts → Monitored
 guest_of g = record {

@@ -1,5 +1,6 @@
 -- The guest's frames, as the guest's holder has them.
-use Rattle.std.specs.Prelude.{◌≡◌, ℕ, ◌*◌, ◌<◌, ◌≤◌, ◌==◌, ◌&&◌, if◌then◌else◌, Bool, [], Some, count_by, length}
+use Rattle.std.specs.Prelude.{◌≡◌, ℕ, ◌*◌, ◌<◌, ◌≤◌, ◌==◌, ◌&&◌, if◌then◌else◌, Bool, List, [], Some, count_by, length}
+use Rattle.private_machine.specs.Backing.{Copy}
 use Rattle.base_words.specs.declared.events.End.{End}
 use Rattle.frame_words.specs.FrameWords.{frame_word}
 use Rattle.frame_words.specs.Views.{frame_holds, cell_loans, HeldUnder}
@@ -7,9 +8,9 @@ use Rattle.frame_words.specs.Holders.{MadeTable}
 use Rattle.frame_words.specs.declared.view.View.{View}
 use Rattle.isolation_law.specs.Surroundings.{Surroundings, cell_of_node, cell_of_frame, home_cell}
 use Rattle.isolation_law.specs.GuestState.{GuestState}
-use Rattle.isolation_law.specs.CellUse.{held}
+use Rattle.isolation_law.specs.CellUse.{held, lies_in}
 use Rattle.isolation_law.specs.Exchange.{count_of}
-use Rattle.isolation_law.specs.Holdings.{holds, loans}
+use Rattle.isolation_law.specs.Holdings.{holds, loans, is_frame}
 use Rattle.isolation_law.specs.Start.{Found, Boot}
 
 -- this frame under this generation
@@ -27,6 +28,14 @@ pub record IsHolding (s : GuestState) (view : View) : Type 0 where
   pub same_generation : (frame generation : ℕ) → 0 < count_of (is_copy frame generation) (held s) → HeldUnder view (frame_word frame) generation
   pub borrowed : (cell : ℕ) → cell < 8 → cell_loans view cell ≡ loans s cell
   pub within : (frame : ℕ) → 0 < holds s frame → frame < frames_around s.around
+
+-- a holder has all these copies, with a loan for each that lies outside the home cell, and no other hold or loan; and their frames are the
+-- machine's
+pub record HoldsCopies (w : Surroundings) (copies : List Copy) (view : View) : Type 0 where
+  pub counted : (frame : ℕ) → frame_holds view frame ≡ count_by (is_frame frame) copies
+  pub same_generation : (frame generation : ℕ) → 0 < count_of (is_copy frame generation) copies → HeldUnder view (frame_word frame) generation
+  pub borrowed : (cell : ℕ) → cell < 8 → cell_loans view cell ≡ (if cell == home_cell w then 0 else count_by (lies_in w cell) copies)
+  pub within : (frame : ℕ) → 0 < count_by (is_frame frame) copies → frame < frames_around w
 
 -- so it is, and a guest that has ended has given all back
 pub record HasFrames (s : GuestState) (view : View) : Type 0 where

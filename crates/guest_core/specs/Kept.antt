@@ -5,11 +5,11 @@ use Rattle.shootdown.specs.declared.view.SidedNote.{SidedNote}
 use Rattle.isolation_law.specs.GuestState.{GuestState, due_on}
 use Rattle.isolation_law.specs.Phases.{GoesOn}
 use Rattle.isolation_law.specs.Run.{Run}
-use Rattle.isolation_law.specs.Start.{Boot, start as started}
+use Rattle.isolation_law.specs.Start.{Boot, IsBoot, start as started}
 use Rattle.guest_course.specs.CourseView.{state_of}
 use Rattle.guest_course.specs.CourseRules.{IsSound}
 use Rattle.guest_core.specs.declared.parts.Parts.{Parts}
-use Rattle.guest_core.specs.GuestView.{loaded_count}
+use Rattle.guest_core.specs.GuestView.{entries_due}
 use Rattle.guest_core.specs.Holding.{HasFrames}
 use Rattle.guest_core.specs.Noting.{IsNoted}
 use Rattle.guest_core.specs.Using.{AreUses}
@@ -26,17 +26,18 @@ pub record Kept (b : Boot) (s : GuestState) (journal : List Event) (notes : List
   pub vcpus : length s.vcpus ≡ b.vcpus
 
 -- A guest whose virtual processors have all halted has ended. Its holder holds what it holds, and its counters are those of the cells
--- that it uses. The journal has room for each unload. Its ends of the wires tell what it sent and took.
+-- that it uses. The journal has room for each unload and for the end of each open move. Its ends of the wires tell what it sent and took.
 pub record IsKept (g : Parts) : Type 0 where
   pub sound : IsSound g.course
   pub seat : g.seat.number ≡ g.number.0
+  pub booted : IsBoot g.start
   pub kept : Kept g.start (state_of g.course) g.journal.entries g.seat.notes
   pub goes_on : g.course.ended ≡ None → GoesOn (state_of g.course)
   pub frames : HasFrames (state_of g.course) g.holder.view
   pub used : AreUses (state_of g.course) g.uses
   pub at_home : g.start.around.home < length g.start.around.nodes
   pub no_policy : (g.start.around.policy.migrate ≡ 0) × (g.start.around.policy.replicate ≡ 0)
-  pub unloads : loaded_count (state_of g.course) ≤ g.journal.room
+  pub owed : entries_due (state_of g.course) ≤ g.journal.room
   pub few_guests : length g.start.around.homes ≤ 8
   pub wired : IsWired g.wiring.wires.value g.wiring.passes g.start.around
   pub posted : Posted (state_of g.course) g.journal.entries g.wiring.passes

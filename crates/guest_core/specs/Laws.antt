@@ -1,21 +1,30 @@
 -- Laws of a guest's entries and of its packets, gathered.
-use Rattle.std.specs.Prelude.{◌≡◌, ℕ, ◌≤◌, List, [], ◌∷◌, ◌++◌, true, false, All, Some, length, flat_map}
+use Rattle.std.specs.Prelude.{◌≡◌, ℕ, suc, ◌≤◌, List, [], ◌∷◌, ◌++◌, true, false, All, Some, length, flat_map}
 use Rattle.base_words.specs.declared.events.End.{End}
 use Rattle.base_words.specs.declared.events.Event.{Event}
 use Rattle.base_words.specs.declared.events.Event.TheVariants.{PacketIn}
+use Rattle.base_words.specs.declared.moves.By.{By}
+use Rattle.base_words.specs.declared.moves.MoveKind.{MoveKind}
 use Rattle.private_machine.specs.Operation.{Packet}
 use Rattle.isolation_law.specs.CellFailure.{end_by, failure_of, is_failure, EndsAs}
+use Rattle.isolation_law.specs.EndRows.{Ends}
 use Rattle.isolation_law.specs.EntryTells.{skip_of, AddsSkips}
 use Rattle.isolation_law.specs.GuestState.{GuestState, processor, vcpu_of, is_dead}
 use Rattle.isolation_law.specs.LiveCells.{UsesLive}
+use Rattle.isolation_law.specs.LoadRows.{Loads, Unloads, Acks}
 use Rattle.isolation_law.specs.LoadsIn.{loaded_after}
 use Rattle.isolation_law.specs.MachineEvent.{Row}
+use Rattle.isolation_law.specs.MoveRows.{Begins, Finishes}
 use Rattle.isolation_law.specs.PacketRows.{ComesToHand, Receives}
 use Rattle.isolation_law.specs.Phases.{GoesOn}
+use Rattle.isolation_law.specs.RefillRow.{Refills}
 use Rattle.isolation_law.specs.Run.{Run}
+use Rattle.isolation_law.specs.SkipRow.{Skips}
 use Rattle.isolation_law.specs.Start.{Boot, start}
+use Rattle.isolation_law.specs.StepRows.{Steps, Emulates}
 use Rattle.isolation_law.specs.Surroundings.{cell_of_processor}
 use Rattle.isolation_law.specs.WireHistory.{AreAccepted, taken_by, taken, Tells, TakesNothing}
+use Rattle.guest_core.specs.GuestView.{open_count}
 
 -- an entry keeps these of a guest, and a run with an entry is a run; what it leaves of skips, failed cells and the end
 pub record RowLaws : Type 0 where
@@ -37,6 +46,21 @@ pub record RunLaws : Type 0 where
   pub live : (b : Boot) (journal : List Event) (t : GuestState) → Run (start b) journal t → UsesLive t
   pub skips : (b : Boot) (journal : List Event) (t : GuestState) → Run (start b) journal t → AddsSkips [] (flat_map skip_of journal) t.skips
   pub ended : (b : Boot) (journal : List Event) (t : GuestState) (c : ℕ) → Run (start b) journal t → EndsAs t (end_by c) → is_dead t c ≡ true
+
+-- how many pages have a move after an entry, and where a packet comes to hand
+pub record MoveLaws : Type 0 where
+  pub loads : (s t : GuestState) (p v : ℕ) → Loads s p v t → open_count t ≡ open_count s
+  pub unloads : (s t : GuestState) (p : ℕ) → Unloads s p t → open_count t ≡ open_count s
+  pub steps : (s t : GuestState) (p v : ℕ) → Steps s p v t → open_count t ≡ open_count s
+  pub refills : (s t : GuestState) (p : ℕ) → Refills s p t → open_count t ≡ open_count s
+  pub emulates : (s t : GuestState) (p v : ℕ) → Emulates s p v t → open_count t ≡ open_count s
+  pub begins : (s t : GuestState) (q : ℕ) (kind : MoveKind) (node : ℕ) (by : By) → Begins s q kind node by t → open_count t ≡ suc (open_count s)
+  pub acks : (s t : GuestState) (p q : ℕ) → Acks s p q t → open_count t ≡ open_count s
+  pub finishes : (s t : GuestState) (q : ℕ) → Finishes s q t → suc (open_count t) ≡ open_count s
+  pub comes_to_hand : (s t : GuestState) → ComesToHand s t → open_count t ≡ open_count s
+  pub receives : (s t : GuestState) (k : ℕ) → Receives s k t → open_count t ≡ open_count s
+  pub skips : (s t : GuestState) (k : ℕ) → Skips s k t → open_count t ≡ open_count s
+  pub ends : (s t : GuestState) (end : End) → Ends s end t → open_count t ≡ 0
 
 -- a packet that is sent is accepted, or the wire is full
 pub record SendLaws : Type 0 where

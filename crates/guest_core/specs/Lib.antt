@@ -8,6 +8,9 @@ pub mod Noting
 pub mod EntryNotes
 pub mod Kept
 pub mod Laws
+pub mod Making
+pub mod MoveCalls
+pub mod Frames
 pub mod GuestCalls
 pub mod PacketCalls
 pub mod Records

@@ -1,14 +1,18 @@
 -- Packets that come to a guest, by what its calls answer.
-use Rattle.std.specs.Prelude.{◌≡◌, ◌≢◌, ℕ, ⊤, [], ◌∷◌, ◌++◌, length, None, Result, Ok, Err}
+use Rattle.std.specs.Prelude.{◌≡◌, ◌≢◌, ℕ, ⊤, List, [], ◌∷◌, ◌++◌, length, Bool, Some, None, Result, Ok, Err}
 use Rattle.std.specs.declared.alloc.AllocError.{AllocError}
-use Rattle.base_words.specs.declared.events.Event.TheVariants.{PacketIn}
+use Rattle.base_words.specs.declared.events.Event.TheVariants.{PacketIn, Begin, Finish}
+use Rattle.base_words.specs.declared.ids.Ppn.{Ppn}
+use Rattle.base_words.specs.declared.moves.By.TheVariants.{Packet as ByPacket}
+use Rattle.base_words.specs.declared.moves.MoveKind.{MoveKind}
 use Rattle.isolation_law.specs.PacketRows.{Receives}
 use Rattle.isolation_law.specs.Run.{Silent}
 use Rattle.wire_queue.specs.ListSteps.{AsksInVain, SameEnds}
 use Rattle.wire_queue.specs.PassLists.{sending_to}
 use Rattle.wire_queue.specs.declared.lists.PassList.{PassList}
 use Rattle.guest_core.specs.GuestView.{Monitored, IsSameGuest}
-use Rattle.guest_core.specs.GuestCalls.{Makes, Stays}
+use Rattle.guest_core.specs.Making.{Makes, Stays}
+use Rattle.guest_core.specs.MoveCalls.{HasWaiting}
 use Rattle.guest_core.specs.Wiring.{others_of}
 use Rattle.guest_core.specs.declared.answers.Packeted.{Packeted}
 use Rattle.guest_core.specs.declared.answers.Packeted.TheVariants as packeted
@@ -44,9 +48,32 @@ pub record Delivers (old new : Monitored) : Type 0 where
   pub not_ended : new.state.end ≡ None
   pub disarmed : new.state.devices.armed ≡ None
 
-abbrev pub TakesIn : Monitored → Monitored → Result ⊤ AllocError → Type 0
-TakesIn old new (Ok done) = ReceivesNext old new
-TakesIn old new (Err e) = new ≡ old
+-- a packet is in hand, which was there or came to hand, for the page that is armed
+pub record HasInHand (old : Monitored) (q : ℕ) (new : Monitored) : Type 0 where
+  pub not_ended : old.state.end ≡ None
+  pub goes_on : new.state.end ≡ None
+  pub armed : old.state.devices.armed ≡ Some q
+  pub in_hand : new.state.hand ≢ None
+  pub notes : new.notes ≡ old.notes
+
+-- the page needs a move first, which has begun
+pub record BeginsForPacket (old : Monitored) (q : Ppn) (new : Monitored) : Type 0 where
+  pub has : HasInHand old q.0 new
+  pub kind : MoveKind
+  pub makes : Makes old (Begin q kind (record { 0 = old.state.around.home }) ByPacket ∷ []) new
+  pub view : new.view ≡ old.view
+
+-- its move, for which nobody waited, is done
+pub record FinishesForPacket (old : Monitored) (q : Ppn) (new : Monitored) : Type 0 where
+  pub has : HasInHand old q.0 new
+  pub makes : Makes old (Finish q ∷ []) new
+
+-- its move waits for these processors
+pub record WaitsWithPacket (old : Monitored) (q : Ppn) (set : List Bool) (new : Monitored) : Type 0 where
+  pub has : HasInHand old q.0 new
+  pub waiting : HasWaiting new.state q.0 set
+  pub makes : Makes old [] new
+  pub view : new.view ≡ old.view
 
 -- none is in hand, and the wire from each other guest was asked and gave none
 pub record HasNoPacket (old new : Monitored) : Type 0 where
@@ -70,6 +97,9 @@ pub record KeepsInHand (old new : Monitored) : Type 0 where
 
 abbrev pub TakesPacket : Monitored → Monitored → Result Packeted AllocError → Type 0
 TakesPacket old new (Ok packeted.Delivered) = IsArmed old × Delivers old new
+TakesPacket old new (Ok (packeted.Begun q)) = BeginsForPacket old q new
+TakesPacket old new (Ok (packeted.Finished q)) = FinishesForPacket old q new
+TakesPacket old new (Ok (packeted.Waits q waiting)) = WaitsWithPacket old q waiting new
 TakesPacket old new (Ok packeted.NoneInHand) = HasNoPacket old new
 TakesPacket old new (Ok packeted.NotArmed) = WaitsForNone old new
 TakesPacket old new (Err e) = KeepsInHand old new

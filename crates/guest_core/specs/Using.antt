@@ -41,3 +41,10 @@ pub record AreUses (s : GuestState) (uses : UsesState) : Type 0 where
   pub told : IsShapeOf s.around shape
   pub cells : length uses.counts ≡ most_cells
   pub counts : AreCounts shape (rows_of s) uses
+
+-- the same for a guest that uses these copies, and what is loaded
+pub record CountsCopies (s : GuestState) (copies : List Copy) (uses : UsesState) : Type 0 where
+  pub shape : Shape
+  pub told : IsShapeOf s.around shape
+  pub cells : length uses.counts ≡ most_cells
+  pub counts : AreCounts shape (record { frames = map frame_of copies; loaded = loaded_cells s.around 0 s.processors }) uses

@@ -1,37 +1,64 @@
 //! The end of a guest.
-ghost use Rattle.std.specs.Prelude.{◌≡◌, ◌≢◌, ◌≤◌, [], ◌∷◌, None};
+ghost use Rattle.std.specs.Prelude.{◌≡◌, ◌≢◌, ◌≤◌, [], ◌∷◌, ◌++◌, None};
 ghost use Rattle.base_words.specs.declared.events.Event.TheVariants.{End as Ending};
 ghost use Rattle.base_words.specs.declared.events.End.TheVariants.{Budget};
-ghost use Rattle.isolation_law.specs.EndRows.{Ends};
 ghost use Rattle.guest_core.specs.GuestView.{guest_of, IsSameGuest, AreOf, shared_by};
 ghost use Rattle.guest_core.specs.Kept.{IsKept};
-ghost use Rattle.guest_core.specs.GuestCalls.{Makes};
+ghost use Rattle.guest_core.specs.Making.{Makes, MakesAlone};
+ghost use Rattle.guest_core.specs.MoveCalls.{finishing, NoneIsDone, EndsByPlan};
 ghost use Rattle.guest_core.specs.Records.{IsRecord};
 
 use crate::laws::laws;
 use crate::parts::Parts;
 use crate::releasing::close;
 use crate::{GuestRecord, Resources};
-use base_words::{End, Event, Sequence};
+use base_words::{End, Event, Ppn, Sequence};
 use frame_words::Holder;
+use isolation_law::run_grows;
 use shootdown::GuestSeat;
 use wire_queue::PassList;
 
 impl Parts {
-    /// Ends a guest that hasn't ended, since the plan is done.
+    /// Finishes each move for which nobody waits, in order of the pages.
+    fn finish_all(&mut self, resources: &Resources)
+        requires kept { IsKept self.old }
+        requires shared { AreOf (shared_by resources.now) (guest_of self.old) }
+        requires not_ended { (guest_of self.old).state.end ≡ None }
+        ensures kept { IsKept self.new }
+        ensures makes { MakesAlone (guest_of self.old) (finishing 0 (guest_of self.old).state.pages) (guest_of self.new) }
+        ensures none { NoneIsDone (guest_of self.new).state }
+        ensures devices { (guest_of self.new).state.devices ≡ (guest_of self.old).state.devices }
+        ensures hand { (guest_of self.new).state.hand ≡ (guest_of self.old).state.hand }
+        ensures not_ended { (guest_of self.new).state.end ≡ None }
+        ensures notes { self.new.seat ≡ self.old.seat }
+        ensures same { IsSameGuest (guest_of self.old) (guest_of self.new) }
+        ensures room { (guest_of self.old).room ≤ (guest_of self.new).room }
+    {
+        run_grows();
+        if !self.course.pmap.is_moving() {
+            return;
+        }
+        for number in 0..self.course.pmap.len() {
+            self.finish_ready(Ppn(number), resources);
+        }
+    }
+
+    /// Ends a guest that hasn't ended, since the plan is done, once each move is finished for which nobody waits.
     pub(crate) fn end_budget(&mut self, resources: &Resources)
         requires kept { IsKept self.old }
         requires shared { AreOf (shared_by resources.now) (guest_of self.old) }
         requires room { 2 ≤ (guest_of self.old).room }
         requires not_ended { (guest_of self.old).state.end ≡ None }
         ensures kept { IsKept self.new }
-        ensures makes { Makes (guest_of self.old) (Ending Budget ∷ []) (guest_of self.new) }
-        ensures row { Ends (guest_of self.old).state Budget (guest_of self.new).state }
+        ensures makes { Makes (guest_of self.old) (finishing 0 (guest_of self.old).state.pages ++ Ending Budget ∷ []) (guest_of self.new) }
+        ensures ended { EndsByPlan (guest_of self.old).state (guest_of self.new).state }
         ensures notes { self.new.seat ≡ self.old.seat }
-        ensures passes { self.new.wiring ≡ self.old.wiring }
+        ensures passes { (guest_of self.new).passes ≡ (guest_of self.old).passes }
         ensures same { IsSameGuest (guest_of self.old) (guest_of self.new) }
     {
         laws();
+        run_grows();
+        self.finish_all(resources);
         close(
             &mut self.course,
             &mut self.holder,
@@ -73,6 +100,7 @@ impl Parts {
             received: Sequence::from_vec(course.received),
             discarded: Sequence::from_vec(course.discarded),
             in_hand: course.hand,
+            skips: Sequence::from_vec(course.skips),
             end,
         };
         (record, holder, wiring.passes, seat)

@@ -1,6 +1,6 @@
 //! A guest under the monitor, whose journal is a run from its start.
-ghost use Rattle.std.specs.Prelude.{◌≡◌, ◌≢◌, ℕ, ◌≤◌, ◌<◌, ◌+◌, [], ◌∷◌, length, None, Some, All, IfOk, OnOk};
-ghost use Rattle.base_words.specs.Limits.{most_cells};
+ghost use Rattle.std.specs.Prelude.{◌≡◌, ◌≢◌, ◌↔◌, ℕ, ◌≤◌, ◌<◌, ◌+◌, [], ◌∷◌, ◌++◌, length, None, Some, All, IfOk, IsTrue, OnOk};
+ghost use Rattle.base_words.specs.Limits.{most_cells, most_processors};
 ghost use Rattle.std.specs.Bool.{OnTrue, OnFalse};
 ghost use Rattle.shootdown.specs.declared.view.SidedNote.{SidedNote};
 ghost use Rattle.base_words.specs.declared.events.Event.TheVariants.{Unload, End as Ending};
@@ -8,13 +8,16 @@ ghost use Rattle.base_words.specs.declared.events.End.TheVariants.{Budget};
 ghost use Rattle.shootdown.specs.declared.notes.Note.TheVariants.{Made};
 ghost use Rattle.shootdown.specs.Notes.{with_side};
 ghost use Rattle.isolation_law.specs.CellUse.{uses as uses_cell};
-ghost use Rattle.isolation_law.specs.EndRows.{Ends};
+ghost use Rattle.isolation_law.specs.Surroundings.{home_cell};
 ghost use Rattle.isolation_law.specs.GuestState.{processor as processor_at};
 ghost use Rattle.guest_core.specs.Starting.{booted_with, MayStart};
 ghost use Rattle.guest_core.specs.Holding.{HasFrames, HoldsFor};
 ghost use Rattle.guest_core.specs.GuestView.{IsAtStart, IsSameGuest, AreOf, shared_by};
 ghost use Rattle.guest_core.specs.Noting.{IsNoted, shows_loaded};
-ghost use Rattle.guest_core.specs.GuestCalls.{Makes, MakesAlone, Stays, Leaves, LoadsVcpu, told_of_load, MayNote, MayCall, processor_of, loaded_on, Turns, told_of_turn};
+ghost use Rattle.guest_core.specs.GuestCalls.{Leaves, LoadsVcpu, told_of_load, MayNote, MayCall, processor_of, loaded_on, Turns, told_of_turn};
+ghost use Rattle.guest_core.specs.Making.{Makes, MakesAlone, Stays};
+ghost use Rattle.guest_course.specs.Errands.{MustWait};
+ghost use Rattle.guest_core.specs.MoveCalls.{finishing, AsksMove, EndsByPlan, FinishesReady, IsPlanned, told_of_ask};
 ghost use Rattle.guest_core.specs.PacketCalls.{IsArmed, KeepsEnds, SameSends, TakesPacket};
 ghost use Rattle.guest_core.specs.Records.{IsRecord};
 ghost use Rattle.guest_core.specs.Wiring.{IsWired, Posted};
@@ -23,8 +26,8 @@ ghost use Rattle.wire_queue.specs.ListSteps.{HasTaken};
 ghost use Rattle.wire_queue.specs.PassLists.{IsUnused};
 
 use crate::parts::Parts;
-use crate::{GuestRecord, Loaded, Packeted, Resources, Turn};
-use base_words::{CellId, End, FrameList, InputList, VcpuId};
+use crate::{Asked, GuestRecord, Loaded, Packeted, Ready, Resources, Turn};
+use base_words::{CellId, End, FrameList, InputList, MoveKind, NodeId, Ppn, ProcId, VcpuId};
 use cow_disk::Disk;
 use elf_image::Image;
 use frame_words::Holder;
@@ -161,8 +164,10 @@ impl Guest {
         self.parts.unload(token);
     }
 
-    /// The virtual processor that is loaded on the token's processor has its turn: `GuestEnded` exactly where the guest has ended, else
-    /// `VcpuHalted` exactly where it has halted; else one step of its own or one refill. What a step sends to another guest is put on their
+    /// The virtual processor that is loaded on the token's processor has its turn: `GuestEnded` exactly where the guest has ended; else
+    /// `Acked` where a page waits for the processor, with the lowest one; else `Finished` where a move waits for nobody, with the lowest page
+    /// that has one; else `VcpuHalted` exactly where it has halted; else one step of its own or one refill, or what the step meets of moves:
+    /// `Waits` where its page has one, `Begun` where the page needs one first. What a step sends to another guest is put on their
     /// wire, or lost where that is full. Want of memory comes only at a send that is made or a disk write that is carried out, and then no
     /// entry was made. The step that halts the last virtual processor ends the guest, which gives all its frames back.
     #[inline(always)]
@@ -183,6 +188,52 @@ impl Guest {
         self.parts.turn(rt, alloc, token, resources)
     }
 
+    /// The plan asks for a move of a page through the token's processor. `Busy` exactly where the guest hasn't ended and the page has a move;
+    /// else `Skipped` where a cause keeps it from being begun, of which the first is noted with what was asked for, or where the node has no
+    /// frame for it, which is noted with what the node showed; else it begins. Want of memory comes only where a frame is sought, and then
+    /// nothing has changed.
+    pub fn ask_move(
+        &mut self,
+        alloc: Global,
+        token: &mut ProcToken,
+        page: Ppn,
+        kind: MoveKind,
+        node: NodeId,
+        resources: &Resources,
+    ) -> Result<Asked, AllocError>
+        requires may { MayCall self.old token.old }
+        requires room { 2 ≤ self.old.room }
+        requires shared { AreOf (shared_by resources.now) self.old }
+        requires page { page.0 < self.old.start.image.pages }
+        requires node { node.0 < length self.old.start.around.nodes }
+        requires planned { IsPlanned self.old.start.around (record { page = page.0; kind = kind; node = node.0 }) }
+        ensures asks { AsksMove resources.now.table.now.terms.lends (home_cell self.old.start.around) self.old (processor_of token.old) (record { page = page.0; kind = kind; node = node.0 }) self.new result }
+        ensures leaves { Leaves self.old token.old (told_of_ask (record { page = page.0; kind = kind; node = node.0 }) result) self.new token.new }
+    {
+        self.parts
+            .ask_move(alloc, token, page, kind, node, resources)
+    }
+
+    /// Finishes the move of a page where nobody waits for it any more. It takes no memory and needs no room.
+    pub fn finish_ready(&mut self, page: Ppn, resources: &Resources) -> Ready
+        requires { AreOf (shared_by resources.now) self.old }
+        ensures finishes { FinishesReady self.old page self.new result }
+        ensures notes { self.new.notes ≡ self.old.notes }
+        ensures same { IsSameGuest self.old self.new }
+        ensures room { self.old.room ≤ self.new.room }
+    {
+        self.parts.finish_ready(page, resources)
+    }
+
+    /// Whether a processor has to wait for the move of a page: the guest hasn't ended, the page has a move that waits for some processor, and no
+    /// page waits for this one.
+    pub fn must_wait(&self, processor: ProcId, page: Ppn) -> bool
+        requires { processor.0 < most_processors }
+        ensures { IsTrue result ↔ MustWait self.now.state processor.0 page.0 }
+    {
+        self.parts.must_wait(processor, page)
+    }
+
     /// Whether the guest hasn't ended and a page is armed, so that a packet may come in.
     #[inline]
     pub fn is_armed(&self) -> bool
@@ -193,7 +244,7 @@ impl Guest {
     }
 
     /// Takes the next packet in hand where the guest hasn't ended, a page is armed, and none is in hand, and copies the one in hand into
-    /// that page. Memory is wanted for the copy that is kept of it; it stays in hand then. It may wait for a wire.
+    /// that page, or begins, finishes or waits for the move that is in its way. Memory is wanted for the copy that is kept of it; it stays in hand then. It may wait for a wire.
     #[inline]
     pub fn packet_in<R: Wait>(
         &mut self,
@@ -202,7 +253,7 @@ impl Guest {
         resources: &Resources,
     ) -> Result<Packeted, AllocError>
         requires room { 2 ≤ self.old.room }
-        requires wires { self.old.wires ≡ resources.now.wires.now }
+        requires shared { AreOf (shared_by resources.now) self.old }
         ensures takes { TakesPacket self.old self.new result }
         ensures sends { SameSends self.old.passes self.new.passes }
         ensures same { IsSameGuest self.old self.new }
@@ -221,13 +272,14 @@ impl Guest {
         self.parts.drained(rt, &mut from.parts, resources)
     }
 
-    /// Ends a guest that hasn't ended, since the plan is done. It gives all its frames back.
+    /// Ends a guest that hasn't ended, since the plan is done, once each move is finished for which nobody waits, in order of the pages. It
+    /// gives all its frames back.
     pub fn end_budget(&mut self, resources: &Resources)
         requires room { 2 ≤ self.old.room }
         requires shared { AreOf (shared_by resources.now) self.old }
         requires not_ended { self.old.state.end ≡ None }
-        ensures makes { Makes self.old (Ending Budget ∷ []) self.new }
-        ensures row { Ends self.old.state Budget self.new.state }
+        ensures makes { Makes self.old (finishing 0 self.old.state.pages ++ Ending Budget ∷ []) self.new }
+        ensures ended { EndsByPlan self.old.state self.new.state }
         ensures notes { self.new.notes ≡ self.old.notes }
         ensures passes { self.new.passes ≡ self.old.passes }
         ensures same { IsSameGuest self.old self.new }

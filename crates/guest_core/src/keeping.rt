@@ -1,18 +1,22 @@
 //! Room for calls, and what the notes tell.
-ghost use Rattle.std.specs.Prelude.{◌≡◌, ◌<◌, ◌≤◌, ℕ, OnOk, length};
+ghost use Rattle.std.specs.Prelude.{◌≡◌, ◌<◌, ◌≤◌, ◌↔◌, ℕ, IsTrue, OnOk, length};
+ghost use Rattle.base_words.specs.Limits.{most_processors};
+ghost use Rattle.guest_course.specs.Errands.{MustWait};
 ghost use Rattle.shootdown.specs.Notes.{with_side};
 ghost use Rattle.isolation_law.specs.GuestState.{processor as processor_at};
 ghost use Rattle.guest_core.specs.GuestView.{guest_of, IsSameGuest};
 ghost use Rattle.guest_core.specs.Kept.{IsKept};
 ghost use Rattle.guest_core.specs.Noting.{shows_loaded};
-ghost use Rattle.guest_core.specs.GuestCalls.{Stays, MayNote};
+ghost use Rattle.guest_core.specs.GuestCalls.{MayNote};
+ghost use Rattle.guest_core.specs.Making.{Stays};
 
 use crate::parts::Parts;
-use base_words::MOST_PROCESSORS;
+use base_words::{MOST_PROCESSORS, Ppn, ProcId};
 use shootdown::{ProcToken, agree};
 use std::alloc::AllocError;
 
-/// For so many entries the journal has room once room was made: two, and one for each processor that may have to unload.
+/// For so many entries the journal has room once room was made, beside the end of each open move: two, and one for each processor that may
+/// have to unload.
 const ENTRIES: usize = 2 + MOST_PROCESSORS;
 
 impl Parts {
@@ -27,7 +31,8 @@ impl Parts {
         ensures passes { self.new.wiring ≡ self.old.wiring }
         ensures room { OnOk result (2 ≤ (guest_of self.new).room) }
     {
-        self.journal.reserve(ENTRIES)?;
+        self.journal
+            .reserve(ENTRIES + self.course.pmap.open_moves())?;
         self.course.reserve()
     }
 
@@ -50,4 +55,13 @@ impl Parts {
         requires { IsKept self.now }
         ensures { (p : ℕ) → p < length (guest_of self.now).start.around.processors → shows_loaded (with_side p (guest_of self.now).notes) ≡ (processor_at (guest_of self.now).state p).loaded }
     {}
+
+    /// Whether a processor has to wait for the move of a page.
+    pub(crate) fn must_wait(&self, processor: ProcId, page: Ppn) -> bool
+        requires kept { IsKept self.now }
+        requires processor { processor.0 < most_processors }
+        ensures { IsTrue result ↔ MustWait (guest_of self.now).state processor.0 page.0 }
+    {
+        self.course.must_wait(processor, page)
+    }
 }

@@ -2,12 +2,16 @@
 #![tactic(auto)]
 
 mod answers;
+mod asking;
 mod booting;
+mod causes;
 mod ending;
+mod frames;
 mod guest;
 mod keeping;
 mod laws;
 mod loading;
+mod moving;
 mod parts;
 mod receiving;
 mod records;
@@ -19,7 +23,7 @@ mod turning;
 mod using;
 mod wiring;
 
-pub use answers::{Loaded, Packeted, Turn};
+pub use answers::{Asked, Loaded, Packeted, Ready, Turn};
 pub use guest::Guest;
 pub use records::{
     Cut, FailureList, FailureRecord, GuestList, GuestRecord, RecordList, RunRecord, SliceList,

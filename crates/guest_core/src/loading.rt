@@ -5,7 +5,8 @@ ghost use Rattle.shootdown.specs.declared.notes.Note.TheVariants.{Made};
 ghost use Rattle.isolation_law.specs.GuestState.{processor as processor_at};
 ghost use Rattle.guest_core.specs.GuestView.{guest_of};
 ghost use Rattle.guest_core.specs.Kept.{IsKept};
-ghost use Rattle.guest_core.specs.GuestCalls.{MakesAlone, Leaves, LoadsVcpu, told_of_load, MayCall, processor_of};
+ghost use Rattle.guest_core.specs.GuestCalls.{Leaves, LoadsVcpu, told_of_load, MayCall, processor_of};
+ghost use Rattle.guest_core.specs.Making.{MakesAlone};
 
 use crate::Loaded;
 use crate::laws::laws;

@@ -1,15 +1,19 @@
 //! Packets come to a guest.
-ghost use Rattle.std.specs.Prelude.{◌≡◌, ◌≢◌, ◌≤◌, ◌+◌, None};
+ghost use Rattle.std.specs.Prelude.{◌≡◌, ◌≢◌, ◌≤◌, ◌+◌, ℕ, Some, None, Ok};
 ghost use Rattle.std.specs.Bool.{OnTrue, OnFalse};
 ghost use Rattle.wire_queue.specs.ListSteps.{HasTaken};
-ghost use Rattle.guest_core.specs.GuestView.{guest_of, IsSameGuest};
+ghost use Rattle.isolation_law.specs.GuestState.{page as page_of};
+ghost use Rattle.guest_course.specs.CourseRules.{IsWritable};
+ghost use Rattle.guest_course.specs.Hurdles.{NeedsMove};
+ghost use Rattle.guest_core.specs.GuestView.{guest_of, IsSameGuest, AreOf, shared_by};
 ghost use Rattle.guest_core.specs.Kept.{IsKept};
-ghost use Rattle.guest_core.specs.PacketCalls.{IsArmed, Fetches, KeepsEnds, SameSends, TakesIn, TakesPacket};
+ghost use Rattle.guest_core.specs.PacketCalls.{IsArmed, Fetches, KeepsEnds, SameSends, TakesPacket};
 
 use crate::laws::laws;
 use crate::parts::Parts;
-use crate::{Packeted, Resources};
-use base_words::Event;
+use crate::{Packeted, Ready, Resources};
+use base_words::{By, Event, MoveKind, Ppn};
+use guest_course::Hurdle;
 use isolation_law::{exchanges, hand_keeps, run_grows};
 use std::alloc::{AllocError, Global};
 use std::sync::Wait;
@@ -47,13 +51,14 @@ impl Parts {
     }
 
     /// Copies the packet in hand into the page that is armed.
-    fn take_in(&mut self, alloc: Global) -> Result<(), AllocError>
+    fn receive(&mut self, alloc: Global) -> Result<Packeted, AllocError>
         requires kept { IsKept self.old }
         requires room { 2 ≤ (guest_of self.old).room }
         requires armed { IsArmed (guest_of self.old) }
         requires in_hand { (guest_of self.old).state.hand ≢ None }
+        requires writable { (q : ℕ) → (guest_of self.old).state.devices.armed ≡ Some q → IsWritable (page_of (guest_of self.old).state q) }
         ensures kept { IsKept self.new }
-        ensures takes { TakesIn (guest_of self.old) (guest_of self.new) result }
+        ensures takes { TakesPacket (guest_of self.old) (guest_of self.new) result }
         ensures passes { (guest_of self.new).passes ≡ (guest_of self.old).passes }
         ensures same { IsSameGuest (guest_of self.old) (guest_of self.new) }
         ensures room { (guest_of self.old).room ≤ (guest_of self.new).room + 2 }
@@ -63,7 +68,74 @@ impl Parts {
         let place = self.course.received.len() as u64;
         self.course.receive(alloc)?;
         self.journal.push(Event::PacketIn(place));
-        Ok(())
+        Ok(Packeted::Delivered)
+    }
+
+    /// Begins the move that the page needs that is armed before the packet in hand comes into it.
+    fn begin_for_packet(&mut self, page: Ppn, kind: MoveKind) -> Packeted
+        requires kept { IsKept self.old }
+        requires room { 2 ≤ (guest_of self.old).room }
+        requires not_ended { (guest_of self.old).state.end ≡ None }
+        requires armed { (guest_of self.old).state.devices.armed ≡ Some page.0 }
+        requires in_hand { (guest_of self.old).state.hand ≢ None }
+        requires needs { NeedsMove (guest_of self.old).state page.0 kind }
+        ensures kept { IsKept self.new }
+        ensures takes { TakesPacket (guest_of self.old) (guest_of self.new) (Ok result) }
+        ensures passes { (guest_of self.new).passes ≡ (guest_of self.old).passes }
+        ensures same { IsSameGuest (guest_of self.old) (guest_of self.new) }
+        ensures room { (guest_of self.old).room ≤ (guest_of self.new).room + 2 }
+    {
+        exchanges();
+        laws();
+        self.course.begin_for_packet(page, kind);
+        self.journal.push(Event::Begin {
+            page,
+            kind,
+            node: self.course.around.home,
+            by: By::Packet,
+        });
+        Packeted::Begun(page)
+    }
+
+    /// The page that is armed has a move: it is finished where nobody waits for it any more.
+    fn finish_for_packet(&mut self, page: Ppn, resources: &Resources) -> Packeted
+        requires kept { IsKept self.old }
+        requires shared { AreOf (shared_by resources.now) (guest_of self.old) }
+        requires not_ended { (guest_of self.old).state.end ≡ None }
+        requires armed { (guest_of self.old).state.devices.armed ≡ Some page.0 }
+        requires in_hand { (guest_of self.old).state.hand ≢ None }
+        requires moves { (page_of (guest_of self.old).state page.0).move ≢ None }
+        ensures kept { IsKept self.new }
+        ensures takes { TakesPacket (guest_of self.old) (guest_of self.new) (Ok result) }
+        ensures passes { (guest_of self.new).passes ≡ (guest_of self.old).passes }
+        ensures same { IsSameGuest (guest_of self.old) (guest_of self.new) }
+        ensures room { (guest_of self.old).room ≤ (guest_of self.new).room + 2 }
+    {
+        match self.finish_ready(page, resources) {
+            Ready::Finished => Packeted::Finished(page),
+            Ready::Waits(waiting) => Packeted::Waits(page, waiting),
+            Ready::NoMove => unreachable!(),
+        }
+    }
+
+    /// Copies the packet in hand into the page that is armed, once nothing is in the way of its bytes.
+    fn take_in(&mut self, alloc: Global, resources: &Resources) -> Result<Packeted, AllocError>
+        requires kept { IsKept self.old }
+        requires shared { AreOf (shared_by resources.now) (guest_of self.old) }
+        requires room { 2 ≤ (guest_of self.old).room }
+        requires armed { IsArmed (guest_of self.old) }
+        requires in_hand { (guest_of self.old).state.hand ≢ None }
+        ensures kept { IsKept self.new }
+        ensures takes { TakesPacket (guest_of self.old) (guest_of self.new) result }
+        ensures passes { (guest_of self.new).passes ≡ (guest_of self.old).passes }
+        ensures same { IsSameGuest (guest_of self.old) (guest_of self.new) }
+        ensures room { (guest_of self.old).room ≤ (guest_of self.new).room + 2 }
+    {
+        match self.course.packet_hurdle() {
+            Hurdle::Free => self.receive(alloc),
+            Hurdle::Needs(page, kind) => Ok(self.begin_for_packet(page, kind)),
+            Hurdle::Waits(page) => Ok(self.finish_for_packet(page, resources)),
+        }
     }
 
     /// Whether all was taken that the wire from another guest accepted. Both guests stay as they are.
@@ -83,7 +155,8 @@ impl Parts {
         self.wiring.has_taken(rt, resources.wires, &mut from.wiring)
     }
 
-    /// Takes the next packet in hand where none is, and copies the one in hand into the page that is armed.
+    /// Takes the next packet in hand where none is, and copies the one in hand into the page that is armed, or begins or finishes the move
+    /// that is in its way.
     #[cold]
     #[inline(never)]
     fn take_next<R: Wait>(
@@ -93,7 +166,7 @@ impl Parts {
         resources: &Resources,
     ) -> Result<Packeted, AllocError>
         requires kept { IsKept self.old }
-        requires wires { (guest_of self.old).wires ≡ resources.now.wires.now }
+        requires shared { AreOf (shared_by resources.now) (guest_of self.old) }
         requires room { 2 ≤ (guest_of self.old).room }
         requires armed { IsArmed (guest_of self.old) }
         ensures kept { IsKept self.new }
@@ -106,8 +179,7 @@ impl Parts {
         if self.course.hand.is_none() {
             return Ok(Packeted::NoneInHand);
         }
-        self.take_in(alloc)?;
-        Ok(Packeted::Delivered)
+        self.take_in(alloc, resources)
     }
 
     /// Takes the next packet in hand where none is, and copies the one in hand into the page that is armed, where one is.
@@ -119,7 +191,7 @@ impl Parts {
         resources: &Resources,
     ) -> Result<Packeted, AllocError>
         requires kept { IsKept self.old }
-        requires wires { (guest_of self.old).wires ≡ resources.now.wires.now }
+        requires shared { AreOf (shared_by resources.now) (guest_of self.old) }
         requires room { 2 ≤ (guest_of self.old).room }
         ensures kept { IsKept self.new }
         ensures takes { TakesPacket (guest_of self.old) (guest_of self.new) result }

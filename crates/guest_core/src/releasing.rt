@@ -1,11 +1,11 @@
 //! A guest gives its frames back, and ends.
 ghost use Rattle.std.specs.Prelude.{◌≡◌, ◌<◌, [], length, slice_index_or};
 ghost use Rattle.frame_words.specs.Holders.{IsMade};
+ghost use Rattle.pmap_table.specs.GivingUp.{held};
 ghost use Rattle.isolation_law.specs.EndRows.{MayEnd, Ends};
 ghost use Rattle.guest_course.specs.CourseView.{state_of};
 ghost use Rattle.guest_course.specs.CourseRules.{IsSound};
-ghost use Rattle.guest_course.specs.EndCalls.{GaveUp};
-ghost use Rattle.guest_core.specs.Holding.{IsHolding, HasFrames, FitsAround};
+ghost use Rattle.guest_core.specs.Holding.{IsHolding, HoldsCopies, HasFrames, FitsAround};
 ghost use Rattle.guest_core.specs.Using.{AreUses};
 
 use base_words::{CellId, End};
@@ -15,7 +15,7 @@ use guest_course::{Around, Course};
 use node_frames::release;
 
 /// The cell of the guest's home node.
-fn home_cell(around: &Around) -> CellId
+pub(crate) fn home_cell(around: &Around) -> CellId
     requires { around.now.home.0 < around.now.site.shape.nodes }
     ensures { result ≡ slice_index_or around.now.site.shape.cells around.now.home.0 (record { 0 = 0 }) }
 {
@@ -27,9 +27,12 @@ fn release_all(course: &mut Course, holder: &mut Holder, table: &FrameTable)
     requires made { IsMade table.now holder.old }
     requires fits { FitsAround table.now (state_of course.old).around }
     requires at_home { course.old.around.home.0 < course.old.around.site.shape.nodes }
-    requires holding { IsHolding (state_of course.old) holder.old.view }
-    ensures gave { GaveUp course.old course.new }
+    requires holding { HoldsCopies (state_of course.old).around (held course.old.pmap) holder.old.view }
+    ensures pages { course.new.pmap.pages ≡ [] }
+    ensures spares { course.new.pmap.spares ≡ [] }
+    ensures rest { course.new ≡ record course.old { pmap = course.new.pmap } }
     ensures given_back { holder.new.view.holds ≡ [] }
+    ensures begins { course.new.pmap.room ≡ course.old.pmap.room }
     ensures same { holder.new.table ≡ holder.old.table }
 {
     no_frame_and_no_loan_is_no_hold();
@@ -61,9 +64,12 @@ pub(crate) fn close(
     ensures devs { course.new.devs ≡ course.old.devs }
     ensures cells { course.new.sent_from ≡ course.old.sent_from }
     ensures received { course.new.received ≡ course.old.received }
+    ensures skips { course.new.skips ≡ course.old.skips }
+    ensures begins { course.new.pmap.room ≡ course.old.pmap.room }
     ensures same { holder.new.table ≡ holder.old.table }
 {
     all_frames_given_back();
+    course.drop_dues();
     release_all(course, holder, table);
     uses.drop_frames();
     course.end(end);

@@ -10,6 +10,7 @@ ghost use Rattle.guest_core.specs.Holding.{HasFrames, FitsAround};
 ghost use Rattle.guest_core.specs.GuestView.{guest_of, AreOf, shared_by};
 ghost use Rattle.guest_core.specs.Kept.{IsKept};
 ghost use Rattle.guest_core.specs.GuestCalls.{Leaves, MayCall, processor_of, loaded_on, step_entries, Turns, told_of_turn};
+ghost use Rattle.guest_core.specs.MoveCalls.{IsAtRest};
 ghost use Rattle.guest_core.specs.TurnParts.{Concludes, MayRun};
 ghost use Rattle.guest_core.specs.Using.{AreUses};
 
@@ -18,11 +19,11 @@ use crate::parts::Parts;
 use crate::releasing::close;
 use crate::serving::{Served, serve};
 use crate::{Resources, Turn};
-use base_words::{End, Event, HwStep, ProcId, TrapCause, VcpuId};
+use base_words::{By, End, Event, HwStep, ProcId, TrapCause, VcpuId};
 use cell_depend::Uses;
 use event_journal::Journal;
 use frame_words::{FrameTable, Holder};
-use guest_course::Course;
+use guest_course::{Course, Errand, no_page_is_taken};
 use isolation_law::exchanges;
 use shootdown::{Note, ProcToken, note};
 use std::alloc::{AllocError, Global};
@@ -55,6 +56,8 @@ fn conclude(
     ensures devs { course.new.devs ≡ course.old.devs }
     ensures cells { course.new.sent_from ≡ course.old.sent_from }
     ensures received { course.new.received ≡ course.old.received }
+    ensures skips { course.new.skips ≡ course.old.skips }
+    ensures begins { course.new.pmap.room ≡ course.old.pmap.room }
     ensures same { holder.new.table ≡ holder.old.table }
 {
     journal.push(Event::Emulate(processor, vcpu));
@@ -83,6 +86,7 @@ impl Parts {
         requires shared { AreOf (shared_by resources.now) (guest_of self.old) }
         requires loaded { (processor_at (guest_of self.old).state token.old.number).loaded ≡ Some vcpu.0 }
         requires runs { MayRun (guest_of self.old).state vcpu.0 }
+        requires rest { IsAtRest (guest_of self.old).state token.old.number }
         requires traps { TrapsFor (guest_of self.old).state token.old.number vcpu.0 cause }
         ensures kept { IsKept self.new }
         ensures turns { Turns (guest_of self.old) (processor_of token.old) vcpu (guest_of self.new) result }
@@ -90,12 +94,26 @@ impl Parts {
     {
         exchanges();
         laws();
+        no_page_is_taken();
         let processor = token.number();
         match serve(&mut self.course, alloc, processor, vcpu, cause)? {
             Served::Refill => {
                 self.journal.push(Event::Refill(processor));
                 Ok(Turn::Refilled)
             }
+            Served::Begin(page, kind) => {
+                self.journal.push(Event::Begin {
+                    page,
+                    kind,
+                    node: self.course.around.home,
+                    by: By::Step(processor),
+                });
+                Ok(Turn::Begun(page))
+            }
+            Served::Wait(page) => match self.course.pmap.open_move(page) {
+                Some(open) => Ok(Turn::Waits(page, open.waiting)),
+                None => unreachable!(),
+            },
             Served::Emulate(out) => {
                 conclude(
                     &mut self.course,
@@ -130,6 +148,7 @@ impl Parts {
         requires shared { AreOf (shared_by resources.now) (guest_of self.old) }
         requires loaded { (processor_at (guest_of self.old).state token.old.number).loaded ≡ Some vcpu.0 }
         requires runs { MayRun (guest_of self.old).state vcpu.0 }
+        requires rest { IsAtRest (guest_of self.old).state token.old.number }
         ensures kept { IsKept self.new }
         ensures turns { Turns (guest_of self.old) (processor_of token.old) vcpu (guest_of self.new) result }
         ensures leaves { Leaves (guest_of self.old) token.old (told_of_turn (processor_of token.old) vcpu result) (guest_of self.new) token.new }
@@ -170,6 +189,17 @@ impl Parts {
         if let Some(end) = self.course.ended {
             note(token, &mut self.seat, Note::Ended(end));
             return Ok(Turn::GuestEnded(end));
+        }
+        match self.course.errand(token.number()) {
+            Errand::Acknowledge(page) => {
+                self.acknowledge(token.number(), page);
+                return Ok(Turn::Acked(page));
+            }
+            Errand::Finish(page) => {
+                self.finish(page, resources);
+                return Ok(Turn::Finished(page));
+            }
+            Errand::Nothing => {}
         }
         let Some(vcpu) = self.course.loaded(token.number()) else {
             unreachable!();

@@ -1,8 +1,9 @@
 //! Which cells a guest uses, counted as it goes.
-ghost use Rattle.std.specs.Prelude.{◌≡◌, ◌≢◌, ◌<◌, ◌≤◌, ◌*◌, ℕ, [], All, IfOk, None, length, map};
+ghost use Rattle.std.specs.Prelude.{◌≡◌, ◌≢◌, ◌<◌, ◌≤◌, ◌*◌, ◌-◌, ◌^◌, ℕ, List, [], ◌∷◌, ◌++◌, All, IfOk, None, length, map};
 ghost use Rattle.base_words.specs.Limits.{most_cells};
 ghost use Rattle.base_words.specs.declared.frame.Frame.{Frame};
 ghost use Rattle.cell_depend.specs.Counters.{AreCounts};
+ghost use Rattle.private_machine.specs.Backing.{Copy};
 ghost use Rattle.isolation_law.specs.CellUse.{uses as uses_cell};
 ghost use Rattle.isolation_law.specs.GuestState.{GuestState, processor as processor_at};
 ghost use Rattle.isolation_law.specs.LoadRows.{Loads, Unloads};
@@ -11,15 +12,15 @@ ghost use Rattle.guest_course.specs.CourseView.{state_of, surroundings};
 ghost use Rattle.guest_course.specs.CourseRules.{AllStand, IsSound};
 ghost use Rattle.guest_core.specs.GuestView.{guest_of};
 ghost use Rattle.guest_core.specs.Kept.{IsKept};
-ghost use Rattle.guest_core.specs.Using.{AreUses};
+ghost use Rattle.guest_core.specs.Using.{AreUses, CountsCopies};
 
 use crate::parts::Parts;
-use base_words::{CellId, FrameList, MOST_CELLS, ProcId, Shape};
+use base_words::{CellId, FrameList, FrameNo, MOST_CELLS, ProcId, Shape};
 use cell_depend::{
-    Uses, counters_equal_rows, frame_taken, frames_are_counted, vcpu_loaded, vcpu_unloaded,
-    vcpus_are_counted,
+    Uses, counters_equal_rows, frame_given_back, frame_taken, frames_are_counted, vcpu_loaded,
+    vcpu_unloaded, vcpus_are_counted,
 };
-use guest_course::Course;
+use guest_course::{Around, Course};
 use isolation_law::exchanges;
 use std::alloc::{AllocError, Global};
 
@@ -48,6 +49,34 @@ pub(crate) fn count_frames(
         }
     }
     Ok(uses)
+}
+
+/// Counts a frame that was taken.
+pub(crate) fn count_frame(uses: &mut Uses, around: &Around, frame: FrameNo)
+    requires within { frame.0 < around.now.site.shape.nodes * around.now.site.shape.frames }
+    requires used { (s : GuestState) × (copies : List Copy) × (s.around ≡ surroundings around.now) × (length copies < 2 ^ 64 - 1) × CountsCopies s copies uses.old }
+    ensures { (s : GuestState) (copies : List Copy) (c : Copy) → s.around ≡ surroundings around.now → c.frame ≡ frame.0 → CountsCopies s copies uses.old → CountsCopies s (c ∷ copies) uses.new }
+{
+    frame_taken();
+    frames_are_counted();
+    let cell = around.site.shape.cell_of(frame);
+    if cell.0 < CELLS {
+        uses.add_frame(cell);
+    }
+}
+
+/// Counts a frame no more that was given back.
+pub(crate) fn count_frame_no_more(uses: &mut Uses, around: &Around, frame: FrameNo)
+    requires within { frame.0 < around.now.site.shape.nodes * around.now.site.shape.frames }
+    requires used { (s : GuestState) × (copies : List Copy) × (c : Copy) × (s.around ≡ surroundings around.now) × (c.frame ≡ frame.0) × CountsCopies s (copies ++ c ∷ []) uses.old }
+    ensures { (s : GuestState) (copies : List Copy) (c : Copy) → s.around ≡ surroundings around.now → c.frame ≡ frame.0 → CountsCopies s (copies ++ c ∷ []) uses.old → CountsCopies s copies uses.new }
+{
+    frame_given_back();
+    frames_are_counted();
+    let cell = around.site.shape.cell_of(frame);
+    if cell.0 < CELLS {
+        uses.drop_frame(cell);
+    }
 }
 
 /// The cell of a processor.

@@ -21,9 +21,9 @@ use Rattle.isolation_law.specs.GuestState.{idle}
 use Rattle.isolation_law.specs.Parts.{Processor}
 use Rattle.isolation_law.specs.Start.{pages_at_start, no_cells, IsBoot, start}
 use Rattle.isolation_law.specs.Coherence.{Coherent}
+use Rattle.guest_course.specs.SkipView.{skip_of}
 use Rattle.guest_course.specs.CourseView.{surroundings, processor_of, due_of, hand_of, got_of, state_of}
 use Rattle.guest_course.specs.CourseRules.{AllStand, IsSound}
-use Rattle.guest_course.specs.Rebacking.{AllPlain}
 use Rattle.guest_course.specs.declared.site.Around.{Around}
 use Rattle.guest_course.specs.declared.course.Course.{Course}
 use Rattle.guest_course.specs.BootCalls.{found_of, given_blocks, boot_of, free_place, AreWhole, AllBelow, MayBoot}
@@ -53,11 +53,6 @@ memory-length : (frames : List Frame) → AreWhole frames → length (flat_map (
 memory-length [] whole = refl
 memory-length (f ∷ frames) whole =
     length-append f.page.value (flat_map (λ (g : Frame). g.page.value) frames) ∙ (let rest = memory-length frames whole.1 in let here = whole.0 in omega arith)
-
-pub own-plain : (frames : List Frame) → AllPlain (map own_page frames)
-own-plain [] q lt = absurd (omega arith)
-own-plain (f ∷ frames) zero lt = record { own = refl; single = refl; rests = refl }
-own-plain (f ∷ frames) (suc q) lt = own-plain frames q (omega arith)
 
 -- the processors, on which nothing is loaded
 pub idle-places : (frames : ℕ) (nodes : List NodeId) → map processor_of (map (free_place frames) nodes) ≡ replicate (length nodes) idle
@@ -106,6 +101,7 @@ pub record Booted (c : Course) (around : Around) (entry vcpus : ℕ) (frames : L
   pub sent_from : c.sent_from.items ≡ []
   pub received : c.received.items ≡ []
   pub discarded : c.discarded.items ≡ []
+  pub skips : c.skips.items ≡ []
   pub hand : c.hand ≡ None
   pub ended : c.ended ≡ None
 
@@ -133,7 +129,7 @@ booted-state c around entry vcpus frames disk input may b =
       sent_from = map (λ x. x.0) (b.sent_from i);
       received = map got_of (b.received i);
       discarded = map got_of (b.discarded i);
-      skips = [];
+      skips = map skip_of (b.skips i);
       hand = option_map hand_of (b.hand i);
       end = b.ended i;
       closing = None;
@@ -194,7 +190,6 @@ booted-sound c around entry vcpus frames disk input may b co =
       going = λ on. record {
         coherent = co;
         pages = ap (λ (d : DeviceState). d.pages) b.devs ∙ sym page_count;
-        plain = rw b.pages (own-plain frames);
         counted = subst (λ a. AreCounters (length c.pmap.pages) (length a.site.shape.cells) c.counters) (sym b.around_is)
             (subst (λ (n : ℕ). AreCounters (length c.pmap.pages) n c.counters) (sym around.site.shape.has_cells) (subst (λ (n : ℕ). AreCounters n around.site.shape.nodes c.counters) (sym page_count) b.counted));
       };

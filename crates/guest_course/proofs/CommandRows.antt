@@ -18,9 +18,8 @@ use Rattle.isolation_law.specs.StepAct.{at_hand}
 use Rattle.isolation_law.specs.StepRows.{IsEmulated, Emulates}
 use Rattle.guest_course.specs.declared.task.Task.{Task}
 use Rattle.guest_course.specs.declared.task.Task.TheVariants as tasks
-use Rattle.guest_course.specs.CourseRules.{IsPlain}
-use Rattle.guest_course.specs.Rebacking.{AllPlain}
-use Rattle.guest_course.specs.Tasks.{read_task, write_task, IsThere}
+use Rattle.guest_course.specs.CourseRules.{IsWritable}
+use Rattle.guest_course.specs.Tasks.{read_task, write_task, IsThere, MayRead}
 use Rattle.guest_course.proofs.TaskRows.{passed_by, joined-pages, joined-disk, joined-transfer, task_done, left-row, Ticks, set_by}
 
 -- the status of a disk command is the same once the input has joined and the instruction is passed
@@ -28,7 +27,7 @@ same-status : (m n : PrivateMachine) (t u : Transfer) (command : ℕ) → n.disk
 same-status m n t u command disk pages is = λ i. disk_status (record m { disk = disk i; pages = pages i }) (is i) command
 
 -- the status of its command
-abbrev status : GuestState → ℕ → ℕ → ℕ
+abbrev pub status : GuestState → ℕ → ℕ → ℕ
 status s v command = disk_status (content s) (set_by s v) command
 
 -- where such a command leads, and what it does with a page
@@ -64,21 +63,21 @@ refused-row s p v command ticks traps off stores is =
     let hand = command-does s v command stores ∙ ap (acts_by (set_by s v) command) is in
     left-row s _ p v NoAct _ traps (ticks m v _ traps.runs.running off leads) hand refl refl
 
--- a page that is plain needs no move before its bytes change
-pub plain-needs : (s : GuestState) (q : ℕ) → IsPlain (page s q) → for_change s q ≡ None
-plain-needs s q plain = λ i. if plain.own i then Some (record { page = q; kind = Break; operation = None })
-    else if none_of (plain.single i) then None else Some (record { page = q; kind = Collapse; operation = None })
+-- a page whose bytes may change needs no move for it
+pub needs-none : (s : GuestState) (q : ℕ) → IsWritable (page s q) → for_change s q ≡ None
+needs-none s q may = λ i. if may.own i then Some (record { page = q; kind = Break; operation = None })
+    else if none_of (may.single i) then None else Some (record { page = q; kind = Collapse; operation = None })
 
 read-row : (s : GuestState) (p v : ℕ) → Ticks → IsEmulated s p v → interrupts (vcpu (joined (content s) v) v).cp0 ≡ false
     → Stores (joined (content s) v) v (attempted (joined (content s) v) v) (at_hand s v) 1 DiskCommand
-    → IsPlain (page s (set_by s v).page) → (status s v 1 == 0) ≡ true → Emulates s p v (task_done s v (tasks.Read (set_by s v).block (record { 0 = (set_by s v).page })))
-read-row s p v ticks traps off stores plain is =
+    → IsWritable (page s (set_by s v).page) → (status s v 1 == 0) ≡ true → Emulates s p v (task_done s v (tasks.Read (set_by s v).block (record { 0 = (set_by s v).page })))
+read-row s p v ticks traps off stores may is =
     let m = content s in
     let n = passed_by m v in
     let t = set_by s v in
     let leads = command-leads s v 1 stores ∙ ap (λ (k : ℕ). Ok (commanded n v t 1 k)) (eqb-true (status s v 1) 0 is) in
     let hand = command-does s v 1 stores ∙ ap (acts_by t 1) is in
-    left-row s _ p v (ReadsDisk t.block t.page) _ traps (ticks m v _ traps.runs.running off leads) hand (plain-needs s t.page plain) refl
+    left-row s _ p v (ReadsDisk t.block t.page) _ traps (ticks m v _ traps.runs.running off leads) hand (needs-none s t.page may) refl
 
 write-row : (s : GuestState) (p v : ℕ) → Ticks → IsEmulated s p v → interrupts (vcpu (joined (content s) v) v).cp0 ≡ false
     → Stores (joined (content s) v) v (attempted (joined (content s) v) v) (at_hand s v) 2 DiskCommand
@@ -94,13 +93,12 @@ write-row s p v ticks traps off stores is =
 -- a read and a write, whatever their status
 pub read-task-row : (s : GuestState) (p v : ℕ) (task : Task) → Ticks → IsEmulated s p v → interrupts (vcpu (joined (content s) v) v).cp0 ≡ false
     → Stores (joined (content s) v) v (attempted (joined (content s) v) v) (at_hand s v) 1 DiskCommand
-    → AllPlain s.pages → IsThere (length s.disk) (length s.pages) task → task ≡ read_task (set_by s v) (status s v 1) → Emulates s p v (task_done s v task)
-read-task-row s p v task ticks traps off stores plain there is = by (status s v 1 == 0) refl is
+    → MayRead s.pages task → IsThere (length s.disk) (length s.pages) task → task ≡ read_task (set_by s v) (status s v 1) → Emulates s p v (task_done s v task)
+read-task-row s p v task ticks traps off stores may there is = by (status s v 1 == 0) refl is
   where
     by : (b : Bool) → (status s v 1 == 0) ≡ b → task ≡ (if b then tasks.Read (set_by s v).block (record { 0 = (set_by s v).page }) else tasks.Refuse (status s v 1)) → Emulates s p v (task_done s v task)
     by true e is =
-        let within = subst (IsThere (length s.disk) (length s.pages)) is there in
-        subst (λ (x : Task). Emulates s p v (task_done s v x)) (sym is) (read-row s p v ticks traps off stores (plain (set_by s v).page within.1) e)
+        subst (λ (x : Task). Emulates s p v (task_done s v x)) (sym is) (read-row s p v ticks traps off stores (subst (MayRead s.pages) is may) e)
     by false e is = subst (λ (x : Task). Emulates s p v (task_done s v x)) (sym is) (refused-row s p v 1 ticks traps off stores e)
 
 pub write-task-row : (s : GuestState) (p v : ℕ) (task : Task) → Ticks → IsEmulated s p v → interrupts (vcpu (joined (content s) v) v).cp0 ≡ false

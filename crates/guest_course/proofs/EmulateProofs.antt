@@ -16,6 +16,7 @@ use Rattle.private_machine.specs.Reaching.{Wanted}
 use Rattle.private_machine.specs.SecondLevel.{seconds_without_pair}
 use Rattle.private_machine.specs.TrapAccess.{trapped_access, grants}
 use Rattle.hw_tlb.specs.Tlb.{Tlb, halves}
+use Rattle.page_policy.specs.Pages.{AreCounters}
 use Rattle.trap_emulate.specs.declared.emulated.EntryWrite.{EntryWrite}
 use Rattle.trap_emulate.specs.GuestView.{Fits}
 use Rattle.trap_emulate.specs.Trapped.{IsTrap, IsDenied as DeniedTrap}
@@ -35,7 +36,7 @@ use Rattle.guest_course.specs.declared.place.Place.{Place}
 use Rattle.guest_course.specs.declared.course.Course.{Course}
 use Rattle.guest_course.specs.CourseView.{surroundings, processor_of, state_of}
 use Rattle.guest_course.specs.CourseRules.{FitsInHand, IsSound, StandsAt, AllStand}
-use Rattle.guest_course.specs.Rebacking.{StaysPlain, Rebacked}
+use Rattle.guest_course.specs.Rebacking.{Rebacked}
 use Rattle.guest_course.specs.StepCalls.{MayStep, IsDenied}
 use Rattle.guest_course.specs.EmulateCalls.{written_dropped}
 use Rattle.guest_course.proofs.NotingLemmas.{stands}
@@ -80,7 +81,7 @@ is-trap s p v cause live d = record {
 -- what a step leaves that is made by hand, and what may be changed of its backing afterwards
 pub record Remade (c d : Course) : Type 0 where
   pub around : d.around ≡ c.around
-  pub counters : d.counters ≡ c.counters
+  pub counted : (pages nodes : ℕ) → AreCounters pages nodes c.counters → AreCounters pages nodes d.counters
   pub ended : d.ended ≡ c.ended
   pub in_hand : FitsInHand d.hand
   pub cells : length d.sent_from.items ≡ length d.devs.state.page.sent
@@ -89,7 +90,7 @@ pub record Remade (c d : Course) : Type 0 where
   pub seconds : length d.seconds.items ≡ length c.seconds.items
   pub places : length d.places.items ≡ length c.places.items
   pub due : length d.due.items ≡ length c.due.items
-  pub plain : StaysPlain c.pmap.pages d.pmap.pages
+  pub long : length d.pmap.pages ≡ length c.pmap.pages
   pub stands : AllStand (surroundings c.around) 0 d.places.items
 
 pub remade : (c d : Course) → d ≡ record c { vcpus = d.vcpus; devs = d.devs } → length d.vcpus.items ≡ length c.vcpus.items → Fits (length c.pmap.pages) d.vcpus.items d.devs.state → AllStand (surroundings c.around) 0 c.places.items → FitsInHand c.hand → length c.sent_from.items ≡ length d.devs.state.page.sent → Remade c d
@@ -98,7 +99,7 @@ remade c d same long fits stand hand cells =
     let pmap = ap (λ (y : Course). y.pmap) same in
     record {
       around = ap (λ (y : Course). y.around) same;
-      counters = ap (λ (y : Course). y.counters) same;
+      counted = λ pages nodes is. rw (ap (λ (y : Course). y.counters) same) is;
       ended = ap (λ (y : Course). y.ended) same;
       in_hand = rw (ap (λ (y : Course). y.hand) same) hand;
       cells = ap (λ (y : Course). length y.sent_from.items) same ∙ cells;
@@ -107,7 +108,7 @@ remade c d same long fits stand hand cells =
       seconds = ap (λ (y : Course). length y.seconds.items) same;
       places = ap (λ (y : Course). length y.places.items) same;
       due = ap (λ (y : Course). length y.due.items) same;
-      plain = record { long = ap (λ (y : Course). length y.pmap.pages) same; plain = λ all. rw pmap all };
+      long = ap (λ (y : Course). length y.pmap.pages) same;
       stands = rw places stand;
     }
 
@@ -115,16 +116,16 @@ remade c d same long fits stand hand cells =
 pub remade-rebacked : (c d e : Course) → Remade c d → Rebacked d e → Remade c e
 remade-rebacked c d e m r = record {
   around = r.around ∙ m.around;
-  counters = r.counters ∙ m.counters;
+  counted = λ pages nodes is. r.counted pages nodes (m.counted pages nodes is);
   ended = r.ended ∙ m.ended;
   in_hand = rw r.hand m.in_hand;
   cells = rw (r.sent_from, r.devs) m.cells;
   vcpus = ap (λ (l : Vec Vcpu). length l.items) r.vcpus ∙ m.vcpus;
-  fits = rw (r.vcpus, r.devs, r.plain.long) m.fits;
+  fits = rw (r.vcpus, r.devs, r.long) m.fits;
   seconds = r.seconds ∙ m.seconds;
   places = r.places ∙ m.places;
   due = r.due ∙ m.due;
-  plain = record { long = r.plain.long ∙ m.plain.long; plain = λ all. r.plain.plain (m.plain.plain all) };
+  long = r.long ∙ m.long;
   stands = subst (λ a. AllStand (surroundings a) 0 e.places.items) m.around r.stands;
 }
 
@@ -141,7 +142,7 @@ sound-remade c d sound on m loaded co =
         seconds = m.seconds ∙ sized.seconds ∙ sym m.vcpus;
         few_processors = subst (λ (k : ℕ). k ≤ most_processors) (sym m.places) sized.few_processors;
         due = m.due ∙ sized.due ∙ sym m.places;
-        few_pages = subst (λ (k : ℕ). k ≤ 2048) (sym m.plain.long) sized.few_pages;
+        few_pages = subst (λ (k : ℕ). k ≤ 2048) (sym m.long) sized.few_pages;
         cells = m.cells;
       };
       agree = m.fits.agree;
@@ -151,8 +152,7 @@ sound-remade c d sound on m loaded co =
       going = λ _. record {
         coherent = co;
         pages = m.fits.of_pages;
-        plain = m.plain.plain going.plain;
-        counted = rw (m.around, m.counters, m.plain.long) going.counted;
+        counted = rw (m.around, m.long) (m.counted _ _ going.counted);
       };
     }
 
@@ -177,20 +177,19 @@ is-dropped c d p v pair lt f =
 pub drop-rebacked : (c d : Course) (p v pair : ℕ) → p < length c.places.items → AllStand (surroundings c.around) 0 c.places.items → Drop c d p v pair → Rebacked c d
 drop-rebacked c d p v pair lt all f =
     let around = surroundings c.around in
-    let pmap = ap (λ (y : Course). y.pmap) f.same in
     let here : StandsAt around p f.place = subst (λ (y : Place). StandsAt around p y) (sym f.at) (stands around p c.places.items f.place all lt) in
     record {
       vcpus = ap (λ (y : Course). y.vcpus) f.same;
       devs = ap (λ (y : Course). y.devs) f.same;
       around = ap (λ (y : Course). y.around) f.same;
-      counters = ap (λ (y : Course). y.counters) f.same;
+      counted = λ pages nodes is. rw (ap (λ (y : Course). y.counters) f.same) is;
       ended = ap (λ (y : Course). y.ended) f.same;
       hand = ap (λ (y : Course). y.hand) f.same;
       sent_from = ap (λ (y : Course). y.sent_from) f.same;
       seconds = ap length f.seconds ∙ length-set c.seconds.items v (seconds_without_pair pair (get_or c.seconds.items v []));
       places = ap length f.places ∙ length-set c.places.items p (record f.place { tlb = f.tlb });
       due = ap (λ (y : Course). length y.due.items) f.same;
-      plain = record { long = ap (λ (y : Course). length y.pmap.pages) f.same; plain = λ plain. rw pmap plain };
+      long = ap (λ (y : Course). length y.pmap.pages) f.same;
       stands = rw f.places (stands-set around p c.places.items (record f.place { tlb = f.tlb }) all (record { node = here.node; is_node = here.is_node; first = here.first; past = here.past }));
     }
 

@@ -16,9 +16,8 @@ use Rattle.guest_course.specs.Rebacking.{Rebacked}
 going-rebacked : (c d : Course) → Rebacked c d → IsGoing c → Coherent (state_of d) → IsGoing d
 going-rebacked c d r going co = record {
   coherent = co;
-  pages = rw r.devs going.pages ∙ sym r.plain.long;
-  plain = r.plain.plain going.plain;
-  counted = rw (r.around, r.counters, r.plain.long) going.counted;
+  pages = rw r.devs going.pages ∙ sym r.long;
+  counted = rw (r.around, r.long) (r.counted _ _ going.counted);
 }
 
 pub sound-rebacked : (c d : Course) → IsSound c → Rebacked c d
@@ -34,7 +33,7 @@ sound-rebacked c d sound r loaded co =
         seconds = r.seconds ∙ sized.seconds ∙ ap (λ l. length l.items) (sym r.vcpus);
         few_processors = subst (λ (k : ℕ). k ≤ most_processors) (sym r.places) sized.few_processors;
         due = r.due ∙ sized.due ∙ sym r.places;
-        few_pages = subst (λ (k : ℕ). k ≤ 2048) (sym r.plain.long) sized.few_pages;
+        few_pages = subst (λ (k : ℕ). k ≤ 2048) (sym r.long) sized.few_pages;
         cells = rw (r.sent_from, r.devs) sized.cells;
       };
       agree = rw (r.devs, r.vcpus) sound.agree;

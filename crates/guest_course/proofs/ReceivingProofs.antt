@@ -18,12 +18,11 @@ use Rattle.isolation_law.specs.Phases.{GoesOn, all_halted}
 use Rattle.guest_course.specs.declared.course.Course.{Course}
 use Rattle.guest_course.specs.declared.got.GotPacket.{GotPacket}
 use Rattle.guest_course.specs.CourseView.{state_of, got_of}
-use Rattle.guest_course.specs.CourseRules.{IsSound}
+use Rattle.guest_course.specs.CourseRules.{IsWritable, IsSound}
 use Rattle.guest_course.specs.EmulateCalls.{StaysLoaded}
-use Rattle.guest_course.proofs.CommandRows.{plain-needs}
+use Rattle.guest_course.proofs.CommandRows.{needs-none}
 use Rattle.guest_course.proofs.DirectRow.{none-dead}
 use Rattle.guest_course.proofs.EmulateProofs.{Remade}
-use Rattle.guest_course.proofs.PlainLemmas.{plain-set}
 use Rattle.guest_course.proofs.StepProofs.{goes-on}
 
 -- what the parts of a guest become by a packet that comes into a page
@@ -47,17 +46,16 @@ state-received c d q x armed r =
     let received = ap (map got_of) r.received ∙ map-append got_of c.received.items (x ∷ []) in
     ap state_of r.same ∙ (λ i. record s { vcpus = vcpus i; devices = devices i; pages = (r.pmap i).pages; operations = replicate (long i) None; spares = (r.pmap i).spares; received = received i; hand = None })
 
-pub receives-row : (c d : Course) (q : ℕ) (x : GotPacket) → IsSound c → GoesOn (state_of c) → (state_of c).devices.armed ≡ Some q
+pub receives-row : (c d : Course) (q : ℕ) (x : GotPacket) → IsSound c → GoesOn (state_of c) → IsWritable (page_at c.pmap.pages q) → (state_of c).devices.armed ≡ Some q
     → (state_of c).hand ≡ Some (got_of x) → Received c d q x → Receives (state_of c) (length c.received.items) (state_of d)
-receives-row c d q x sound on armed hand r =
+receives-row c d q x sound on may armed hand r =
     let s = state_of c in
-    let going = sound.going on.not_ended in
     record {
       q = q;
       packet = got_of x;
       delivered = record { goes_on = on; armed = armed; in_hand = hand; lives = none-dead x.cell.0; next = sym (length-map c.received.items got_of) };
       shares = false;
-      needs_nothing = plain-needs s q (going.plain q (going.coherent.armed_page q armed));
+      needs_nothing = needs-none s q may;
       after = state-received c d q x armed r;
     }
 
@@ -72,7 +70,7 @@ received-remade c d q x sound on r =
     let vcpus = ap length r.vcpus ∙ changed-length (with_line_on 3 true) 0 (map (unlinked_page q) c.vcpus.items) ∙ length-map c.vcpus.items (unlinked_page q) in
     record {
       around = ap (λ (y : Course). y.around) r.same;
-      counters = ap (λ (y : Course). y.counters) r.same;
+      counted = λ pages nodes is. rw (ap (λ (y : Course). y.counters) r.same) is;
       ended = ap (λ (y : Course). y.ended) r.same;
       in_hand = rw (ap (λ (y : Course). y.hand) r.same) tt;
       cells = ap (λ (y : Course). length y.sent_from.items) r.same ∙ sound.sized.cells ∙ ap (λ (y : DeviceState). length y.page.sent) (sym r.devs);
@@ -85,10 +83,7 @@ received-remade c d q x sound on r =
       seconds = ap (λ (y : Course). length y.seconds.items) r.same;
       places = ap (λ (y : Course). length y.places.items) r.same;
       due = ap (λ (y : Course). length y.due.items) r.same;
-      plain = record {
-        long = long;
-        plain = λ all. rw r.pmap (plain-set c.pmap.pages q new all (λ lt. let old = all q lt in record { own = old.own; single = old.single; rests = old.rests }));
-      };
+      long = long;
       stands = rw places sound.places;
     }
 

@@ -33,8 +33,7 @@ use Rattle.std.specs.Global.{Vec}
 use Rattle.guest_course.specs.declared.place.Place.{Place}
 use Rattle.guest_course.proofs.PlaceLemmas.{loaded-below}
 use Rattle.guest_course.proofs.ShownLemmas.{stepped-length}
-use Rattle.guest_course.proofs.PlainLemmas.{stepped-plain, halted-shown, halted-at}
-use Rattle.guest_course.specs.Rebacking.{AllPlain, StaysPlain}
+use Rattle.guest_course.proofs.LengthLemmas.{stepped-long, halted-shown, halted-at}
 use Rattle.guest_course.proofs.DirectRow.{left_by_step, traps-for, direct-row, direct-pages}
 
 -- what a step of the hardware leaves as it was
@@ -59,16 +58,16 @@ pages-of : (c d : Course) (p v : ℕ) (access : Access) → Made c d p v access
     → (done : Done) × (step_on (state_of c) p v ≡ Ok done) × (access ≡ access_told v (held_of (with_inputs (state_of c) v)) done) × (d.pmap.pages ≡ (stepped_through v (held_of (with_inputs (state_of c) v)) done).held.pages)
 pages-of c d p v access m = direct-pages (state_of c) p v (is_due v (waits_for c.vcpus.items c.devs.state.page) (vcpu_of (state_of c) v)) d.pmap.pages m.executed.between access refl m.sound.sized.some_vcpus refl m.executed.made
 
-pub stays-plain : (c d : Course) (p v : ℕ) (access : Access) → Made c d p v access → StaysPlain c.pmap.pages d.pmap.pages
-stays-plain c d p v access m =
+pub stays-long : (c d : Course) (p v : ℕ) (access : Access) → Made c d p v access → length d.pmap.pages ≡ length c.pmap.pages
+stays-long c d p v access m =
     let r = pages-of c d p v access m in
-    subst (λ (l : List Page). StaysPlain c.pmap.pages l) (sym r.3) (stepped-plain v (held_of (with_inputs (state_of c) v)) r.0)
+    ap length r.3 ∙ stepped-long v (held_of (with_inputs (state_of c) v)) r.0
 
 -- the state after the step, but for what is noted of it
 pub mid-state : (c d : Course) (p v : ℕ) (access : Access) (m : Made c d p v access) → state_of d ≡ left_by_step (state_of c) v d.pmap.pages m.executed.between
 mid-state c d p v access m =
     let e = m.executed in
-    let long = (stays-plain c d p v access m).long in
+    let long = stays-long c d p v access m in
     ap state_of m.hardware.same
     ∙ (λ i. record (state_of c) { vcpus = e.vcpus_are i; devices = e.page_is i; pages = d.pmap.pages; operations = replicate (long i) None; spares = m.hardware.spares i })
 
@@ -100,7 +99,7 @@ within-noted c p (access_of.Store page frame) may is = may page.0 is
 pub may-note : (c d : Course) (p v : ℕ) (access : Access) → Made c d p v access → (q : ℕ) → q < length d.pmap.pages → MayNote d p q
 may-note c d p v access m q lt =
     let same = m.hardware.same in
-    let long = (stays-plain c d p v access m).long in
+    let long = stays-long c d p v access m in
     let going = m.sound.going m.may.goes_on.not_ended in
     let places : d.places ≡ c.places = ap (λ (x : Course). x.places) same in
     let dues : d.due ≡ c.due = ap (λ (x : Course). x.due) same in
@@ -121,7 +120,7 @@ pub note-within : (c d : Course) (p v : ℕ) (access : Access) → Made c d p v 
 note-within c d p v access m reach =
     let r = pages-of c d p v access m in
     let going = m.sound.going m.may.goes_on.not_ended in
-    let long = (stays-plain c d p v access m).long in
+    let long = stays-long c d p v access m in
     let within : IsWithinPages (length c.pmap.pages) access.«data» = subst (λ (a : Access). IsWithinPages (length c.pmap.pages) a.«data») (sym r.2) (reach (state_of c) p v r.0 going.coherent r.1) in
     within-noted d p access.«data» (may-note c d p v access m) (subst (λ (n : ℕ). IsWithinPages n access.«data») (sym long) within)
 
@@ -155,7 +154,7 @@ pub record Noted (d x : Course) : Type 0 where
 going-after : (c d x : Course) (p v : ℕ) (access : Access) → Made c d p v access → Noted d x → Coherent (state_of x) → IsGoing x
 going-after c d x p v access m n co =
     let going = m.sound.going m.may.goes_on.not_ended in
-    let plain = stays-plain c d p v access m in
+    let long = stays-long c d p v access m in
     let pmap : x.pmap ≡ d.pmap = ap (λ (y : Course). y.pmap) n.same in
     let devs : x.devs ≡ d.devs = ap (λ (y : Course). y.devs) n.same in
     let around : x.around ≡ c.around = ap (λ (y : Course). y.around) n.same ∙ ap (λ (y : Course). y.around) m.hardware.same in
@@ -163,14 +162,13 @@ going-after c d x p v access m n co =
     let counted : AreCounters (length c.pmap.pages) (length c.around.site.shape.cells) x.counters = n.counted _ _ (rw counters going.counted) in
     record {
       coherent = co;
-      pages = ap (λ y. y.state.pages) devs ∙ ap (λ (y : DeviceState). y.pages) m.hardware.devs ∙ going.pages ∙ sym plain.long ∙ ap (λ y. length y.pages) (sym pmap);
-      plain = rw pmap (plain.plain going.plain);
-      counted = rw (pmap, around, plain.long) counted;
+      pages = ap (λ y. y.state.pages) devs ∙ ap (λ (y : DeviceState). y.pages) m.hardware.devs ∙ going.pages ∙ sym long ∙ ap (λ y. length y.pages) (sym pmap);
+      counted = rw (pmap, around, long) counted;
     }
 
 pub sound-after : (c d x : Course) (p v : ℕ) (access : Access) → Made c d p v access → Noted d x → Coherent (state_of x) → IsSound x
 sound-after c d x p v access m n co =
-    let plain = stays-plain c d p v access m in
+    let long = stays-long c d p v access m in
     let sized = m.sound.sized in
     let pmap : x.pmap ≡ d.pmap = ap (λ (y : Course). y.pmap) n.same in
     let devs : x.devs ≡ d.devs = ap (λ (y : Course). y.devs) n.same in
@@ -186,7 +184,7 @@ sound-after c d x p v access m n co =
     let count : length x.vcpus.items ≡ length c.vcpus.items = ap (λ l. length l.items) vcpus ∙ vcpus-count c d p v access m in
     let transfers : length x.devs.state.page.transfers ≡ length c.devs.state.page.transfers =
     ap (λ y. length y.state.page.transfers) devs ∙ ap (λ (y : DevicePage). length y.transfers) m.executed.page_is ∙ ap length (transfers-joined v m.executed.between c.devs.state.page) in
-    let pages : length x.pmap.pages ≡ length c.pmap.pages = ap (λ y. length y.pages) pmap ∙ plain.long in
+    let pages : length x.pmap.pages ≡ length c.pmap.pages = ap (λ y. length y.pages) pmap ∙ long in
     record {
       sized = record {
         some_vcpus = subst (λ (k : ℕ). 0 < k) (sym count) sized.some_vcpus;
@@ -241,7 +239,6 @@ sound-stays c d p v cause sound h u =
           record {
             coherent = subst Coherent (sym (stays c d p v cause h u)) going.coherent;
             pages = ap (λ (y : DeviceState). y.pages) h.devs ∙ going.pages ∙ ap length (sym pages);
-            plain = subst (λ (l : List Page). AllPlain l) (sym pages) going.plain;
             counted = rw (pages, around, counters) going.counted;
           };
     }

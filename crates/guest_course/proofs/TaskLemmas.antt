@@ -1,6 +1,7 @@
--- What a task leaves of a guest's parts: their numbers, that pages are plain, and what is shown.
-use Rattle.std.proofs.Common.{◌≡◌, ℕ, List, [], ◌∷◌, ◌++◌, ◌+◌, length, map, get_or, refl, sym, ap, ◌∙◌, length-set}
+-- What a task leaves of a guest's parts: their numbers, and what is shown.
+use Rattle.std.proofs.Common.{◌≡◌, ℕ, ◌==◌, if◌then◌else◌, Bool, true, false, subst, List, [], ◌∷◌, ◌++◌, ◌+◌, Some, None, length, map, get_or, refl, sym, ap, ◌∙◌, length-set}
 use Rattle.std.proofs.lemmas.List.{map-append, length-map, length-append}
+use Rattle.base_words.specs.declared.device.Transfer.{Transfer}
 use Rattle.base_words.specs.declared.ids.CellId.{CellId}
 use Rattle.private_machine.specs.declared.vcpu.Vcpu.{Vcpu}
 use Rattle.private_machine.specs.Showing.{shown_by}
@@ -8,11 +9,14 @@ use Rattle.private_machine.specs.Backing.{Page, page_at, with_first}
 use Rattle.private_machine.specs.DevicePage.{DevicePage, transfer_of}
 use Rattle.private_machine.specs.Disk.{Block, no_block, block_now}
 use Rattle.private_machine.specs.Links.{unlinked_page}
+use Rattle.private_machine.specs.Devices.{disk_status}
+use Rattle.guest_devs.specs.declared.act.DevAct.{DevAct}
+use Rattle.guest_devs.specs.declared.act.DevAct.TheVariants as acts
+use Rattle.isolation_law.specs.GuestState.{GuestState}
+use Rattle.isolation_law.specs.Content.{content}
 use Rattle.guest_course.specs.declared.task.Task.{Task}
 use Rattle.guest_course.specs.declared.task.Task.TheVariants as tasks
-use Rattle.guest_course.specs.Rebacking.{StaysPlain}
-use Rattle.guest_course.specs.Tasks.{done_page, done_cells, done_pages, done_vcpus, done_disk}
-use Rattle.guest_course.proofs.PlainLemmas.{plain-set}
+use Rattle.guest_course.specs.Tasks.{IsTask, IsClear, MayRead, done_page, done_cells, done_pages, done_vcpus, done_disk}
 
 -- the cells of what was sent, as the state has them
 abbrev pub done_sent : Task → List ℕ → List ℕ
@@ -29,18 +33,38 @@ sent-done (tasks.Write block q) cells = refl
 sent-done (tasks.Send parcel) cells = map-append (λ (x : CellId). x.0) cells (parcel.cell ∷ [])
 sent-done tasks.Skip cells = refl
 
--- pages stay plain, and as many
-pub pages-plain : (disk : List Block) (task : Task) (pages : List Page) → StaysPlain pages (done_pages disk task pages)
-pages-plain disk (tasks.Refuse status) pages = record { long = refl; plain = λ all. all }
-pages-plain disk (tasks.Read block q) pages =
-    let new = with_first (block_now (get_or disk block no_block)) (page_at pages q.0) in
-    record {
-      long = length-set pages q.0 new;
-      plain = λ all. plain-set pages q.0 new all (λ lt. let old = all q.0 lt in record { own = old.own; single = old.single; rests = old.rests });
-    }
-pages-plain disk (tasks.Write block q) pages = record { long = refl; plain = λ all. all }
-pages-plain disk (tasks.Send parcel) pages = record { long = refl; plain = λ all. all }
-pages-plain disk tasks.Skip pages = record { long = refl; plain = λ all. all }
+-- there are as many pages
+pub pages-long : (disk : List Block) (task : Task) (pages : List Page) → length (done_pages disk task pages) ≡ length pages
+pages-long disk (tasks.Refuse status) pages = refl
+pages-long disk (tasks.Read block q) pages = length-set pages q.0 (with_first (block_now (get_or disk block no_block)) (page_at pages q.0))
+pages-long disk (tasks.Write block q) pages = refl
+pages-long disk (tasks.Send parcel) pages = refl
+pages-long disk tasks.Skip pages = refl
+
+-- a page into which a block comes may change where no page is in the way
+pub may-read : (s : GuestState) (v : ℕ) (act : DevAct) (task : Task) → IsTask s v act task → IsClear s v act → MayRead s.pages task
+may-read s v acts.Done task is clear = absurd is
+may-read s v acts.DiskRead task is clear = by (disk_status (content s) t 1 == 0) refl is
+  where
+    t : Transfer
+    t = transfer_of s.devices v
+
+    by : (b : Bool) → (disk_status (content s) t 1 == 0) ≡ b → task ≡ (if b then tasks.Read t.block (record { 0 = t.page }) else tasks.Refuse (disk_status (content s) t 1)) → MayRead s.pages task
+    by true e is = subst (MayRead s.pages) (sym is) (clear t.page (ap (λ (b : Bool). if b then Some t.page else None) e))
+    by false e is = subst (MayRead s.pages) (sym is) tt
+may-read s v acts.DiskWrite task is clear = by (disk_status (content s) t 2 == 0) is
+  where
+    t : Transfer
+    t = transfer_of s.devices v
+
+    by : (b : Bool) → task ≡ (if b then tasks.Write t.block (record { 0 = t.page }) else tasks.Refuse (disk_status (content s) t 2)) → MayRead s.pages task
+    by true is = subst (MayRead s.pages) (sym is) tt
+    by false is = subst (MayRead s.pages) (sym is) tt
+may-read s v (acts.Send to) (tasks.Refuse status) is clear = tt
+may-read s v (acts.Send to) (tasks.Read block q) is clear = absurd is
+may-read s v (acts.Send to) (tasks.Write block q) is clear = tt
+may-read s v (acts.Send to) (tasks.Send parcel) is clear = tt
+may-read s v (acts.Send to) tasks.Skip is clear = tt
 
 pub transfers-done : (v : ℕ) (task : Task) (d : DevicePage) → length (done_page v task d).transfers ≡ length d.transfers
 transfers-done v (tasks.Refuse status) d = length-set d.transfers v (record (transfer_of d v) { status = status })

@@ -10,39 +10,50 @@ use Rattle.private_machine.specs.Backing.{Page}
 use Rattle.private_machine.specs.OwnStep.{is_privileged}
 use Rattle.private_machine.specs.Reaching.{Wanted, Lack, NoRange, NoHalf, DeadFrame, NoStore, Sight, Reached, at_half, fetch_at, wanted, through_half, in_segment, reached}
 use Rattle.private_machine.specs.HardwareStep.{Trap, Line, FetchMiss, DataMiss, ReadOnly, Address, Privileged, Raised, Dead, Done, fetch_trap, data_trap, word_through, with_data, accesses, executes, decodes, fetches, hardware_step, cause_of}
-use Rattle.private_machine.specs.TrapAccess.{trapped_access, missed_access, TellsAccess}
-use Rattle.guest_course.specs.Granting.{missed_of, HasAccess}
+use Rattle.private_machine.specs.TrapAccess.{trapped_access, missed_access, access_of, TellsAccess}
+use Rattle.guest_course.specs.Granting.{is_miss, HasAccess}
 
--- the access that a cause tells is the one that missed
+-- the access that a cause tells is the one for which the processor trapped
 pub has-access : (regs : Regs) (trap : Trap) → TellsAccess regs trap → HasAccess regs (cause_of trap)
 has-access regs Line tells = tt
 has-access regs (FetchMiss w) tells = tt
 has-access regs (DataMiss word w) tells = (w, sym tells)
-has-access regs (ReadOnly word w) tells = tt
+has-access regs (ReadOnly word w) tells = (w, sym tells)
 has-access regs (Address word) tells = tt
 has-access regs (Privileged word) tells = tt
 has-access regs (Raised x) tells = tt
 has-access regs (Dead there w) tells = tt
 
-pub missed-is : (regs : Regs) (trap : Trap) → TellsAccess regs trap → missed_of regs (cause_of trap) ≡ missed_access trap
-missed-is regs Line tells = refl
-missed-is regs (FetchMiss w) tells = sym tells
-missed-is regs (DataMiss word w) tells = sym tells
-missed-is regs (ReadOnly word w) tells = refl
-missed-is regs (Address word) tells = refl
-missed-is regs (Privileged word) tells = refl
-missed-is regs (Raised x) tells = refl
-missed-is regs (Dead there w) tells = refl
+pub told-is : (regs : Regs) (trap : Trap) → TellsAccess regs trap → ((there : Reached) (w : Wanted) → trap ≡ Dead there w → ⊥) → access_of regs (cause_of trap) ≡ trapped_access trap
+told-is regs Line tells live = refl
+told-is regs (FetchMiss w) tells live = sym tells
+told-is regs (DataMiss word w) tells live = sym tells
+told-is regs (ReadOnly word w) tells live = sym tells
+told-is regs (Address word) tells live = refl
+told-is regs (Privileged word) tells live = refl
+told-is regs (Raised x) tells live = refl
+told-is regs (Dead there w) tells live = absurd (live there w refl)
 
-pub trapped-is : (trap : Trap) (w : Wanted) → missed_access trap ≡ Some w → trapped_access trap ≡ Some w
-trapped-is Line w e = cc
-trapped-is (FetchMiss x) w e = e
-trapped-is (DataMiss word x) w e = e
-trapped-is (ReadOnly word x) w e = cc
-trapped-is (Address word) w e = cc
-trapped-is (Privileged word) w e = cc
-trapped-is (Raised x) w e = cc
-trapped-is (Dead there x) w e = cc
+-- the access of a cause for which one missed
+pub missed-if : (trap : Trap) → is_miss (cause_of trap) ≡ true → missed_access trap ≡ trapped_access trap
+missed-if Line is = refl
+missed-if (FetchMiss w) is = refl
+missed-if (DataMiss word w) is = refl
+missed-if (ReadOnly word w) is = cc
+missed-if (Address word) is = refl
+missed-if (Privileged word) is = refl
+missed-if (Raised x) is = refl
+missed-if (Dead there w) is = cc
+
+pub not-missed : (trap : Trap) → is_miss (cause_of trap) ≡ false → missed_access trap ≡ None
+not-missed Line is = refl
+not-missed (FetchMiss w) is = cc
+not-missed (DataMiss word w) is = cc
+not-missed (ReadOnly word w) is = refl
+not-missed (Address word) is = refl
+not-missed (Privileged word) is = refl
+not-missed (Raised x) is = refl
+not-missed (Dead there w) is = refl
 
 -- what an access lacked
 pub record Lacks (x : Sight) (w : Wanted) : Type 0 where
@@ -53,57 +64,57 @@ pub record Lacks (x : Sight) (w : Wanted) : Type 0 where
 same-some : (a b : Wanted) → ◌≡◌ {A = Option Wanted} (Some a) (Some b) → a ≡ b
 same-some a b e = cc
 
-fetch-lacks : (x : Sight) (w own : Wanted) (lack : Lack) → reached x own ≡ Err lack → missed_access (fetch_trap own lack) ≡ Some w → Lacks x w
+fetch-lacks : (x : Sight) (w own : Wanted) (lack : Lack) → reached x own ≡ Err lack → trapped_access (fetch_trap own lack) ≡ Some w → Lacks x w
 fetch-lacks x w own NoRange is e = cc
 fetch-lacks x w own NoHalf is e = subst (Lacks x) (same-some own w e) (record { lack = NoHalf; reaches = is; ranges = λ n. cc })
-fetch-lacks x w own (DeadFrame there) is e = cc
+fetch-lacks x w own (DeadFrame there) is e = subst (Lacks x) (same-some own w e) (record { lack = DeadFrame there; reaches = is; ranges = λ n. cc })
 fetch-lacks x w own NoStore is e = subst (Lacks x) (same-some own w e) (record { lack = NoStore; reaches = is; ranges = λ n. cc })
 
-data-lacks : (x : Sight) (w own : Wanted) (word : ℕ) (lack : Lack) → reached x own ≡ Err lack → missed_access (data_trap word own lack) ≡ Some w → Lacks x w
+data-lacks : (x : Sight) (w own : Wanted) (word : ℕ) (lack : Lack) → reached x own ≡ Err lack → trapped_access (data_trap word own lack) ≡ Some w → Lacks x w
 data-lacks x w own word NoRange is e = cc
 data-lacks x w own word NoHalf is e = subst (Lacks x) (same-some own w e) (record { lack = NoHalf; reaches = is; ranges = λ n. cc })
-data-lacks x w own word (DeadFrame there) is e = cc
-data-lacks x w own word NoStore is e = cc
+data-lacks x w own word (DeadFrame there) is e = subst (Lacks x) (same-some own w e) (record { lack = DeadFrame there; reaches = is; ranges = λ n. cc })
+data-lacks x w own word NoStore is e = subst (Lacks x) (same-some own w e) (record { lack = NoStore; reaches = is; ranges = λ n. cc })
 
 trap-same : (a b : Trap) → ◌≡◌ {A = Result Done Trap} (Err a) (Err b) → a ≡ b
 trap-same a b e = cc
 
-with-data-lacks : (x : Sight) (w own : Wanted) (word : ℕ) (at : Reached) (does : Effect) (r : Result Reached Lack) (trap : Trap) → reached x own ≡ r → with_data word own at does r ≡ Err trap → missed_access trap ≡ Some w → Lacks x w
+with-data-lacks : (x : Sight) (w own : Wanted) (word : ℕ) (at : Reached) (does : Effect) (r : Result Reached Lack) (trap : Trap) → reached x own ≡ r → with_data word own at does r ≡ Err trap → trapped_access trap ≡ Some w → Lacks x w
 with-data-lacks x w own word at does (Ok to) trap is e misses = cc
-with-data-lacks x w own word at does (Err lack) trap is e misses = data-lacks x w own word lack is (ap missed_access (trap-same (data_trap word own lack) trap e) ∙ misses)
+with-data-lacks x w own word at does (Err lack) trap is e misses = data-lacks x w own word lack is (ap trapped_access (trap-same (data_trap word own lack) trap e) ∙ misses)
 
-accesses-lacks : (x : Sight) (w : Wanted) (word : ℕ) (at : Reached) (does : Effect) (own : Option Wanted) (trap : Trap) → accesses x word at does own ≡ Err trap → missed_access trap ≡ Some w → Lacks x w
+accesses-lacks : (x : Sight) (w : Wanted) (word : ℕ) (at : Reached) (does : Effect) (own : Option Wanted) (trap : Trap) → accesses x word at does own ≡ Err trap → trapped_access trap ≡ Some w → Lacks x w
 accesses-lacks x w word at does None trap e misses = cc
 accesses-lacks x w word at does (Some own) trap e misses = with-data-lacks x w own word at does (reached x own) trap refl e misses
 
-executes-lacks : (x : Sight) (w : Wanted) (word : ℕ) (at : Reached) (r : Result Effect Exception) (trap : Trap) → executes x word at r ≡ Err trap → missed_access trap ≡ Some w → Lacks x w
-executes-lacks x w word at (Err exception) trap e misses = absurd (none (sym (ap missed_access (trap-same (Raised exception) trap e)) ∙ refl))
+executes-lacks : (x : Sight) (w : Wanted) (word : ℕ) (at : Reached) (r : Result Effect Exception) (trap : Trap) → executes x word at r ≡ Err trap → trapped_access trap ≡ Some w → Lacks x w
+executes-lacks x w word at (Err exception) trap e misses = absurd (none (sym (ap trapped_access (trap-same (Raised exception) trap e)) ∙ refl))
   where
-    none : missed_access trap ≡ None → ⊥
+    none : trapped_access trap ≡ None → ⊥
     none n = cc
 executes-lacks x w word at (Ok does) trap e misses = accesses-lacks x w word at does (wanted does.request) trap e misses
 
-decodes-lacks : (x : Sight) (w : Wanted) (regs : Regs) (at : Reached) (word : ℕ) (trap : Trap) → decodes x regs at word ≡ Err trap → missed_access trap ≡ Some w → Lacks x w
+decodes-lacks : (x : Sight) (w : Wanted) (regs : Regs) (at : Reached) (word : ℕ) (trap : Trap) → decodes x regs at word ≡ Err trap → trapped_access trap ≡ Some w → Lacks x w
 decodes-lacks x w regs at word trap e misses = by (is_privileged word) e
   where
     by : (b : Bool) → (if b then Err (Privileged word) else executes x word at (effect (decoded word) regs)) ≡ Err trap → Lacks x w
-    by true e = absurd (let n : missed_access trap ≡ None = sym (ap missed_access (trap-same (Privileged word) trap e)) in none n)
+    by true e = absurd (let n : trapped_access trap ≡ None = sym (ap trapped_access (trap-same (Privileged word) trap e)) in none n)
       where
-        none : missed_access trap ≡ None → ⊥
+        none : trapped_access trap ≡ None → ⊥
         none n = cc
     by false e = executes-lacks x w word at (effect (decoded word) regs) trap e misses
 
-fetches-lacks : (x : Sight) (w : Wanted) (pages : List Page) (regs : Regs) (r : Result Reached Lack) (trap : Trap) → reached x (fetch_at regs.pc) ≡ r → fetches x pages regs r ≡ Err trap → missed_access trap ≡ Some w → Lacks x w
-fetches-lacks x w pages regs (Err lack) trap is e misses = fetch-lacks x w (fetch_at regs.pc) lack is (ap missed_access (trap-same (fetch_trap (fetch_at regs.pc) lack) trap e) ∙ misses)
+fetches-lacks : (x : Sight) (w : Wanted) (pages : List Page) (regs : Regs) (r : Result Reached Lack) (trap : Trap) → reached x (fetch_at regs.pc) ≡ r → fetches x pages regs r ≡ Err trap → trapped_access trap ≡ Some w → Lacks x w
+fetches-lacks x w pages regs (Err lack) trap is e misses = fetch-lacks x w (fetch_at regs.pc) lack is (ap trapped_access (trap-same (fetch_trap (fetch_at regs.pc) lack) trap e) ∙ misses)
 fetches-lacks x w pages regs (Ok at) trap is e misses = decodes-lacks x w regs at (word_through pages at regs.pc) trap e misses
 
-pub lacks : (x : Sight) (w : Wanted) (pages : List Page) (regs : Regs) (trap : Trap) → hardware_step x pages regs ≡ Err trap → missed_access trap ≡ Some w → Lacks x w
+pub lacks : (x : Sight) (w : Wanted) (pages : List Page) (regs : Regs) (trap : Trap) → hardware_step x pages regs ≡ Err trap → trapped_access trap ≡ Some w → Lacks x w
 lacks x w pages regs trap e misses = by x.line e
   where
     by : (b : Bool) → (if b then Err Line else fetches x pages regs (reached x (fetch_at regs.pc))) ≡ Err trap → Lacks x w
-    by true e = absurd (let n : missed_access trap ≡ None = sym (ap missed_access (trap-same Line trap e)) in none n)
+    by true e = absurd (let n : trapped_access trap ≡ None = sym (ap trapped_access (trap-same Line trap e)) in none n)
       where
-        none : missed_access trap ≡ None → ⊥
+        none : trapped_access trap ≡ None → ⊥
         none n = cc
     by false e = fetches-lacks x w pages regs (reached x (fetch_at regs.pc)) trap refl e misses
 

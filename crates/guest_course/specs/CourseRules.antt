@@ -3,7 +3,7 @@ use Rattle.std.specs.Prelude.{◌≡◌, ℕ, suc, ◌+◌, ◌*◌, ◌<◌, �
 use Rattle.base_words.specs.Limits.{most_processors}
 use Rattle.base_words.specs.declared.trap.DataAccess.{DataAccess}
 use Rattle.base_words.specs.declared.trap.DataAccess.TheVariants as access
-use Rattle.private_machine.specs.Backing.{Page, page_at}
+use Rattle.private_machine.specs.Backing.{Page}
 use Rattle.page_policy.specs.Pages.{AreCounters}
 use Rattle.wire_queue.specs.declared.packet.WirePacket.{WirePacket}
 use Rattle.guest_devs.specs.Shown.{Agree}
@@ -14,11 +14,10 @@ use Rattle.guest_course.specs.declared.place.Place.{Place}
 use Rattle.guest_course.specs.declared.course.Course.{Course}
 use Rattle.guest_course.specs.CourseView.{surroundings, state_of}
 
--- a page has a frame of its own, no other, and doesn't move
-pub record IsPlain (g : Page) : Type 0 where
+-- a page's bytes may change: its frame is the guest's own, and there is no other
+pub record IsWritable (g : Page) : Type 0 where
   pub own : g.shared ≡ false
   pub single : g.replicas ≡ []
-  pub rests : g.move ≡ None
 
 -- a processor's node is the one that was told, with its frames
 pub record StandsAt (around : Surroundings) (p : ℕ) (place : Place) : Type 0 where
@@ -48,11 +47,10 @@ FitsInHand None = Unit {0}
 FitsInHand (Some packet) = packet.length ≤ 4096
 
 -- the virtual processors show what the devices keep; each that is loaded is there; and until the guest ends it is coherent, and each
--- page is plain, with its counters
+-- page has its counters
 pub record IsGoing (c : Course) : Type 0 where
   pub coherent : Coherent (state_of c)
   pub pages : c.devs.state.pages ≡ length c.pmap.pages
-  pub plain : (q : ℕ) → q < length c.pmap.pages → IsPlain (page_at c.pmap.pages q)
   pub counted : AreCounters (length c.pmap.pages) (length c.around.site.shape.cells) c.counters
 
 pub record IsSound (c : Course) : Type 0 where

@@ -1,31 +1,65 @@
 -- What becomes of an access for which a processor trapped.
-use Rattle.std.specs.Prelude.{◌≡◌, ℕ, ◌/◌, ◌<◌, ◌≤◌, length, List, not, ◌&&◌}
+use Rattle.std.specs.Prelude.{◌≡◌, ◌≢◌, ℕ, ◌/◌, ◌<◌, ◌≤◌, length, List, Some, None, Ok, Err, not, ◌&&◌}
 use Rattle.base_words.specs.Limits.{most_processors}
+use Rattle.base_words.specs.declared.moves.MoveKind.{MoveKind}
+use Rattle.base_words.specs.declared.place.Place.TheVariants.{Memory}
 use Rattle.base_words.specs.declared.trap.TrapCause.{TrapCause}
 use Rattle.base_words.specs.Halves.{Half, Fills}
 use Rattle.private_machine.specs.Backing.{nearest}
+use Rattle.private_machine.specs.OwnStep.{led}
 use Rattle.private_machine.specs.PageMove.{named_by}
+use Rattle.private_machine.specs.Reaching.{Wanted}
+use Rattle.private_machine.specs.HardwareStep.{Trap}
+use Rattle.private_machine.specs.TrapAccess.{trapped_access, missed_access}
 use Rattle.private_machine.specs.SecondLevel.{Second, put}
+use Rattle.isolation_law.specs.Content.{content}
 use Rattle.isolation_law.specs.DirectStep.{lost_frames}
 use Rattle.isolation_law.specs.Surroundings.{node_of_processor}
 use Rattle.isolation_law.specs.GuestState.{GuestState, page, processor, second_level, vcpu_of, with_page, with_tlb, with_second_level}
 use Rattle.isolation_law.specs.Needs.{none_of}
 use Rattle.isolation_law.specs.RefillRow.{Refills}
+use Rattle.isolation_law.specs.Traps.{step_on}
+use Rattle.guest_course.specs.Hurdles.{NeedsMove}
 use Rattle.guest_course.specs.StepCalls.{IsDenied}
 use Rattle.guest_course.specs.declared.course.Course.{Course}
 use Rattle.guest_course.specs.CourseView.{surroundings}
 use Rattle.guest_course.specs.CourseRules.{AllStand}
 use Rattle.guest_course.specs.declared.granting.Granted.{Granted}
 use Rattle.guest_course.specs.declared.refilling.Refill.{Refill}
-use Rattle.guest_course.specs.declared.refilling.Refill.TheVariants.{Filled, Denied}
+use Rattle.guest_course.specs.declared.refilling.Refill.TheVariants.{Filled, Waits, Needs, Denied}
 
 -- nothing has changed, and the guest itself doesn't grant on memory what the processor trapped for
 pub record StaysDenied (s : GuestState) (p v : ℕ) (cause : TrapCause) (t : GuestState) : Type 0 where
   pub why : IsDenied s p v cause
   pub same : t ≡ s
 
+-- the processor traps for an access that the guest itself grants, on this page of memory
+pub record ReachesPage (s : GuestState) (p v q : ℕ) : Type 0 where
+  pub trap : Trap
+  pub traps : step_on s p v ≡ Err trap
+  pub access : Wanted
+  pub is_it : trapped_access trap ≡ Some access
+  pub offset : ℕ
+  pub leads : led (content s) v access.unit access.purpose access.address ≡ Ok (Memory offset)
+  pub page_is : q ≡ offset / 4096
+
+-- nothing has changed: the page has a move
+pub record StaysWaiting (s : GuestState) (p v q : ℕ) (t : GuestState) : Type 0 where
+  pub reaches : ReachesPage s p v q
+  pub moves : (page s q).move ≢ None
+  pub same : t ≡ s
+
+-- nothing has changed: the access is a store, which needs this move of the page
+pub record StaysNeeding (s : GuestState) (p v q : ℕ) (kind : MoveKind) (t : GuestState) : Type 0 where
+  pub reaches : ReachesPage s p v q
+  pub stores : missed_access reaches.trap ≡ None
+  pub needs : NeedsMove s q kind
+  pub same : t ≡ s
+
 abbrev pub Serves : GuestState → ℕ → ℕ → TrapCause → GuestState → Refill → Type 0
 Serves s p v cause t Filled = Refills s p t
+Serves s p v cause t (Waits q) = StaysWaiting s p v q.0 t
+Serves s p v cause t (Needs q kind) = StaysNeeding s p v q.0 kind t
 Serves s p v cause t Denied = StaysDenied s p v cause t
 
 -- the half and the second-level entry for what the guest grants

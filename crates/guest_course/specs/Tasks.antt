@@ -1,5 +1,5 @@
 -- What is to be done for an act that was left, and what it makes of a guest's parts.
-use Rattle.std.specs.Prelude.{◌≡◌, ◌<◌, ℕ, ◌==◌, if◌then◌else◌, true, false, List, [], ◌∷◌, ◌++◌, map, take, slice_index_or, slice_set}
+use Rattle.std.specs.Prelude.{◌≡◌, ◌<◌, ℕ, ◌==◌, if◌then◌else◌, true, false, List, [], ◌∷◌, ◌++◌, map, take, Option, Some, None, slice_index_or, slice_set}
 use Rattle.base_words.specs.declared.device.Transfer.{Transfer}
 use Rattle.base_words.specs.declared.ids.CellId.{CellId}
 use Rattle.private_machine.specs.declared.vcpu.Vcpu.{Vcpu}
@@ -15,6 +15,7 @@ use Rattle.guest_devs.specs.declared.act.DevAct.TheVariants as acts
 use Rattle.isolation_law.specs.Surroundings.{cell_of_frame}
 use Rattle.isolation_law.specs.GuestState.{GuestState, page}
 use Rattle.isolation_law.specs.Content.{content}
+use Rattle.guest_course.specs.CourseRules.{IsWritable}
 use Rattle.guest_course.specs.declared.task.Parcel.{Parcel}
 use Rattle.guest_course.specs.declared.task.Task.{Task}
 use Rattle.guest_course.specs.declared.task.Task.TheVariants as tasks
@@ -62,6 +63,25 @@ IsThere blocks pages (tasks.Read block q) = (block < blocks) × (q.0 < pages)
 IsThere blocks pages (tasks.Write block q) = (block < blocks) × (q.0 < pages)
 IsThere blocks pages (tasks.Send parcel) = Unit {0}
 IsThere blocks pages tasks.Skip = Unit {0}
+
+-- a page into which a block comes may change
+abbrev pub MayRead : List Page → Task → Type 0
+MayRead pages (tasks.Refuse status) = Unit {0}
+MayRead pages (tasks.Read block q) = IsWritable (page_at pages q.0)
+MayRead pages (tasks.Write block q) = Unit {0}
+MayRead pages (tasks.Send parcel) = Unit {0}
+MayRead pages tasks.Skip = Unit {0}
+
+-- the page into which a block comes with an act, if one does
+abbrev pub read_page : GuestState → ℕ → DevAct → Option ℕ
+read_page s v acts.Done = None
+read_page s v acts.DiskRead = if disk_status (content s) (transfer_of s.devices v) 1 == 0 then Some (transfer_of s.devices v).page else None
+read_page s v acts.DiskWrite = None
+read_page s v (acts.Send to) = None
+
+-- no page is in the way of an act: that into which a block comes may change
+abbrev pub IsClear : GuestState → ℕ → DevAct → Type 0
+IsClear s v act = (q : ℕ) → read_page s v act ≡ Some q → IsWritable (page s q)
 
 -- the device page, and the cells of what was sent
 abbrev pub done_page : ℕ → Task → DevicePage → DevicePage

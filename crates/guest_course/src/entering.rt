@@ -1,15 +1,17 @@
 //! What the monitor does for a processor that trapped.
 ghost use Rattle.std.specs.Prelude.{◌≡◌, ◌<◌, ◌≤◌, ◌+◌};
+ghost use Rattle.guest_course.specs.declared.entering.Entry.TheVariants.{Emulate};
 ghost use Rattle.guest_course.specs.CourseView.{state_of};
 ghost use Rattle.guest_course.specs.CourseRules.{IsSound};
 ghost use Rattle.guest_course.specs.StepCalls.{MayStep, TrapsFor};
+ghost use Rattle.guest_course.specs.EmulateCalls.{ReadsNoBlock};
 ghost use Rattle.guest_course.specs.EntryCalls.{Enters, GoesOnAfter};
 ghost use Rattle.guest_course.specs.Packets.{SamePackets};
 
 use crate::course::Course;
 use crate::emulating::Emulation;
 use crate::refilling::Refill;
-use base_words::{ProcId, TrapCause, VcpuId};
+use base_words::{MoveKind, Ppn, ProcId, TrapCause, VcpuId};
 use guest_devs::DevAct;
 
 /// The entry of the guest's journal that was made for a trap, or why there is none.
@@ -22,6 +24,10 @@ pub enum Entry {
     /// No entry yet, and nothing has changed: the step at hand stores to a register of the device page, and this act, with the rest of
     /// the step, is left to the caller.
     Left(DevAct),
+    /// No entry, and nothing has changed: the access at hand is on this page, which has a move that isn't over.
+    Waits(Ppn),
+    /// No entry yet, and nothing has changed: the store at hand is on this page, which needs this move first.
+    Needs(Ppn, MoveKind),
 }
 
 impl Course {
@@ -36,15 +42,19 @@ impl Course {
         requires room { 0 < self.old.devs.print_room }
         ensures sound { IsSound self.new }
         ensures enters { Enters (state_of self.old) processor.0 vcpu.0 (state_of self.new) result }
+        ensures reads { result ≡ Emulate → ReadsNoBlock (state_of self.old) vcpu.0 }
         ensures goes_on { GoesOnAfter result (state_of self.new) }
         ensures print_room { self.old.devs.print_room ≤ self.new.devs.print_room + 1 }
         ensures send_room { self.new.devs.send_room ≡ self.old.devs.send_room }
         ensures room { self.new.pmap.room ≡ self.old.pmap.room }
         ensures cells { self.new.sent_from ≡ self.old.sent_from }
+        ensures skips { self.new.skips ≡ self.old.skips }
         ensures packets { SamePackets self.old self.new }
     {
         match self.refill(processor, vcpu, cause) {
             Refill::Filled => Entry::Refill,
+            Refill::Waits(page) => Entry::Waits(page),
+            Refill::Needs(page, kind) => Entry::Needs(page, kind),
             Refill::Denied => match self.emulate(processor, vcpu, cause) {
                 Emulation::Made => Entry::Emulate,
                 Emulation::Left(act) => Entry::Left(act),

@@ -13,11 +13,10 @@ ghost use Rattle.guest_devs.specs.Shown.{Agree};
 ghost use Rattle.isolation_law.specs.StepRows.{IsEmulated, Emulates};
 ghost use Rattle.isolation_law.specs.WireHistory.{sent_to};
 ghost use Rattle.guest_course.specs.CourseView.{state_of};
-ghost use Rattle.guest_course.specs.CourseRules.{IsSound};
 ghost use Rattle.guest_course.specs.EmulateCalls.{LeavesAct, StaysLoaded};
 ghost use Rattle.guest_course.specs.Joining.{joined_page};
-ghost use Rattle.guest_course.specs.Rebacking.{AllPlain};
-ghost use Rattle.guest_course.specs.Tasks.{IsThere, done_page, done_cells, done_pages, done_vcpus, done_disk};
+ghost use Rattle.guest_course.specs.CourseRules.{IsSound, IsWritable};
+ghost use Rattle.guest_course.specs.Tasks.{IsThere, IsClear, MayRead, done_page, done_cells, done_pages, done_vcpus, done_disk};
 ghost use Rattle.guest_course.specs.LeavingCalls.{passing, passed, UsesCell};
 ghost use Rattle.guest_course.specs.Packets.{TakesNothing};
 ghost use Rattle.guest_course.specs.Posting.{posted};
@@ -66,7 +65,7 @@ fn begin(vcpus: &mut [Vcpu], devs: &mut Devs, vcpu: VcpuId)
 fn copy_block(disk: &Disk, pmap: &mut Pmap, block: u32, page: Ppn)
     requires block { block < length disk.now }
     requires page { page.0 < length pmap.old.pages }
-    requires plain { AllPlain pmap.old.pages }
+    requires writable { IsWritable (page_at pmap.old.pages page.0) }
     ensures { pmap.new ≡ with_page pmap.old page.0 (with_first (block_now (slice_index_or disk.now block no_block)) (page_at pmap.old.pages page.0)) }
 {
     match disk.read_block(block) {
@@ -94,7 +93,7 @@ impl Course {
     fn fill_page(&mut self, block: u32, page: Ppn)
         requires block { block < length self.old.disk }
         requires page { page.0 < length self.old.pmap.pages }
-        requires plain { AllPlain self.old.pmap.pages }
+        requires writable { IsWritable (page_at self.old.pmap.pages page.0) }
         ensures same { self.new ≡ record self.old { vcpus = self.new.vcpus; pmap = self.new.pmap } }
         ensures vcpus { self.new.vcpus.items ≡ map (unlinked_page page.0) self.old.vcpus.items }
         ensures pages { self.new.pmap ≡ with_page self.old.pmap page.0 (with_first (block_now (slice_index_or self.old.disk block no_block)) (page_at self.old.pmap.pages page.0)) }
@@ -122,7 +121,7 @@ impl Course {
     fn perform(&mut self, vcpu: VcpuId, task: Task)
         requires vcpu { vcpu.0 < length self.old.devs.state.page.transfers }
         requires there { IsThere (length self.old.disk) (length self.old.pmap.pages) task }
-        requires plain { AllPlain self.old.pmap.pages }
+        requires may { MayRead self.old.pmap.pages task }
         requires send_room { 0 < self.old.devs.send_room }
         requires cells { vec_len self.old.sent_from < vec_capacity self.old.sent_from }
         ensures same { self.new ≡ record self.old { vcpus = self.new.vcpus; devs = self.new.devs; pmap = self.new.pmap; sent_from = self.new.sent_from } }
@@ -146,14 +145,17 @@ impl Course {
         }
     }
 
-    /// Makes the step of which this act is left. Want of memory comes only at a send that is made and at a disk write that is carried
-    /// out, and then nothing has changed.
+    /// Makes the step of which this act is left, where no page is in its way. Want of memory comes only at a send that is made and at
+    /// a disk write that is carried out, and then nothing has changed.
     pub fn carry_out(&mut self, alloc: Global, vcpu: VcpuId, act: DevAct) -> Result<(), AllocError>
         requires sound { IsSound self.old }
         requires left { (p : ℕ) × LeavesAct (state_of self.old) p vcpu.0 act (state_of self.old) }
+        requires clear { IsClear (state_of self.old) vcpu.0 act }
         requires send_room { 0 < self.old.devs.send_room }
         requires cells { vec_len self.old.sent_from < vec_capacity self.old.sent_from }
         ensures sound { IsSound self.new }
+        ensures skips { self.new.skips ≡ self.old.skips }
+        ensures room { self.new.pmap.room ≡ self.old.pmap.room }
         ensures emulates { OnOk result ((p : ℕ) → IsEmulated (state_of self.old) p vcpu.0 → Emulates (state_of self.old) p vcpu.0 (state_of self.new)) }
         ensures unchanged { OnErr result (self.new ≡ self.old) }
         ensures wanting { OnErr result (MayWant (state_of self.old) vcpu.0 act) }

@@ -1,7 +1,8 @@
-//! Packets that come to a guest: one comes to hand, and is copied into the page that is armed.
-ghost use Rattle.std.specs.Prelude.{◌≡◌, ◌≢◌, ◌<◌, ◌≤◌, IfOk, OnOk, OnErr, Some, None, length, map, option_map, true};
+//! Packets that come to a guest: one comes to hand, and is copied into the page that is armed, once that may change.
+ghost use Rattle.std.specs.Prelude.{◌≡◌, ◌≢◌, ◌<◌, ◌≤◌, ◌+◌, ℕ, IfOk, OnOk, OnErr, Some, None, length, map, option_map, true};
 ghost use Rattle.std.specs.Vec.{vec_len, vec_capacity};
 ghost use Rattle.base_words.specs.declared.ids.Ppn.{Ppn};
+ghost use Rattle.base_words.specs.declared.moves.By.TheVariants.{Packet};
 ghost use Rattle.private_machine.specs.Backing.{page_at, with_first};
 ghost use Rattle.private_machine.specs.DeviceRegisters.{packet_noted};
 ghost use Rattle.private_machine.specs.Links.{unlinked_page};
@@ -9,16 +10,19 @@ ghost use Rattle.private_machine.specs.Signals.{changed};
 ghost use Rattle.private_machine.specs.Vcpu.{with_line_on};
 ghost use Rattle.pmap_table.specs.PageMap.{with_page};
 ghost use Rattle.guest_devs.specs.Shown.{Agree};
+ghost use Rattle.isolation_law.specs.MoveRows.{Begins};
 ghost use Rattle.isolation_law.specs.PacketRows.{ComesToHand, Receives};
 ghost use Rattle.isolation_law.specs.Phases.{GoesOn};
 ghost use Rattle.guest_course.specs.CourseView.{state_of, hand_of, got_of};
-ghost use Rattle.guest_course.specs.CourseRules.{IsSound};
+ghost use Rattle.guest_course.specs.CourseRules.{IsSound, IsWritable};
 ghost use Rattle.guest_course.specs.EmulateCalls.{StaysLoaded};
+ghost use Rattle.guest_course.specs.Hurdles.{NeedsMove};
+ghost use Rattle.guest_course.specs.Packets.{SamePackets};
 ghost use Rattle.guest_course.specs.ReceivingCalls.{MayDeliver, UsesPlace};
 
 use crate::course::Course;
 use crate::got::GotPacket;
-use base_words::{Bytes, Ppn};
+use base_words::{Bytes, MoveKind, Ppn};
 use isolation_law::row_keeps;
 use private_machine::unlink_page;
 use std::alloc::{AllocError, Global};
@@ -81,14 +85,37 @@ impl Course {
             .packet_by(&mut self.vcpus, packet.from, bytes.len() as u32);
     }
 
-    /// Copies the packet in hand into the page that is armed. For want of memory nothing has changed.
+    /// Begins the move that the packet in hand needs of the page that is armed for it. A break takes a spare.
+    pub fn begin_for_packet(&mut self, page: Ppn, kind: MoveKind)
+        requires sound { IsSound self.old }
+        requires goes_on { GoesOn (state_of self.old) }
+        requires in_hand { self.old.hand ≢ None }
+        requires armed { (state_of self.old).devices.armed ≡ Some page.0 }
+        requires needs { NeedsMove (state_of self.old) page.0 kind }
+        requires room { 0 < self.old.pmap.room }
+        ensures sound { IsSound self.new }
+        ensures begins { Begins (state_of self.old) page.0 kind (state_of self.old).around.home Packet (state_of self.new) }
+        ensures goes_on { GoesOn (state_of self.new) }
+        ensures print_room { self.new.devs.print_room ≡ self.old.devs.print_room }
+        ensures send_room { self.new.devs.send_room ≡ self.old.devs.send_room }
+        ensures room { self.old.pmap.room ≤ self.new.pmap.room + 1 }
+        ensures cells { self.new.sent_from ≡ self.old.sent_from }
+        ensures skips { self.new.skips ≡ self.old.skips }
+        ensures packets { SamePackets self.old self.new }
+    {
+        self.begin_asked(page, kind);
+    }
+
+    /// Copies the packet in hand into the page that is armed, whose bytes may change. For want of memory nothing has changed.
     pub fn receive(&mut self, alloc: Global) -> Result<(), AllocError>
         requires sound { IsSound self.old }
         requires goes_on { GoesOn (state_of self.old) }
         requires in_hand { self.old.hand ≢ None }
         requires armed { (state_of self.old).devices.armed ≢ None }
+        requires writable { (q : ℕ) → (state_of self.old).devices.armed ≡ Some q → IsWritable (page_at self.old.pmap.pages q) }
         requires place { vec_len self.old.received < vec_capacity self.old.received }
         ensures sound { IsSound self.new }
+        ensures room { self.new.pmap.room ≡ self.old.pmap.room }
         ensures receives { OnOk result (Receives (state_of self.old) (length self.old.received.items) (state_of self.new)) }
         ensures unchanged { OnErr result (self.new ≡ self.old) }
         ensures goes_on { GoesOn (state_of self.new) }
@@ -97,6 +124,7 @@ impl Course {
         ensures print_room { self.new.devs.print_room ≡ self.old.devs.print_room }
         ensures send_room { self.new.devs.send_room ≡ self.old.devs.send_room }
         ensures cells { self.new.sent_from ≡ self.old.sent_from }
+        ensures skips { self.new.skips ≡ self.old.skips }
         ensures place_room { UsesPlace self.old.received self.new.received }
     {
         row_keeps();

@@ -5,18 +5,19 @@ ghost use Rattle.isolation_law.specs.Needs.{none_of};
 ghost use Rattle.isolation_law.specs.GuestState.{vcpu_of};
 ghost use Rattle.isolation_law.specs.Coherence.{Coherent};
 ghost use Rattle.isolation_law.specs.Phases.{GoesOn, Runs};
+ghost use Rattle.private_machine.specs.TrapAccess.{access_of};
 ghost use Rattle.trap_emulate.specs.Requests.{wanted_of};
 ghost use Rattle.guest_course.specs.CourseView.{state_of};
 ghost use Rattle.guest_course.specs.CourseRules.{IsSound};
 ghost use Rattle.guest_course.specs.StepCalls.{MayStep, TrapsFor};
 ghost use Rattle.guest_course.specs.Rebacking.{Rebacked};
-ghost use Rattle.guest_course.specs.Granting.{missed_of, HasAccess, IsInRange, Grants};
+ghost use Rattle.guest_course.specs.Granting.{HasAccess, IsInRange, Grants};
 ghost use Rattle.guest_course.specs.RefillCalls.{Serves, IsFilled, MayFill};
 ghost use Rattle.guest_course.specs.Packets.{SamePackets};
 
 use crate::course::Course;
-use crate::granting::{Granted, by_second, missed, walk};
-use base_words::{Ppn, ProcId, TrapCause, VcpuId};
+use crate::granting::{Granted, accessed, by_second, is_miss, walk};
+use base_words::{MoveKind, Ppn, ProcId, TrapCause, VcpuId};
 use isolation_law::{read_only_needs, row_keeps, second_level_serves, traps_tell};
 use l2_tlb::L2Entry;
 use pmap_table::Pmap;
@@ -27,6 +28,10 @@ use trap_emulate::Access;
 pub enum Refill {
     /// The guest itself grants it on memory, and the processor's TLB has its half now.
     Filled,
+    /// The guest itself grants it on this page, which has a move that isn't over. Nothing has changed.
+    Waits(Ppn),
+    /// It is a store that the guest itself grants on this page, which needs this move first. Nothing has changed.
+    Needs(Ppn, MoveKind),
     /// It was for no access, or for one that the guest itself doesn't grant on memory. Nothing has changed.
     Denied,
 }
@@ -59,16 +64,16 @@ impl Course {
         }
     }
 
-    /// The access for which a virtual processor trapped, where it missed the processor's TLB.
-    fn missed(&self, vcpu: VcpuId, cause: TrapCause) -> Option<Access>
+    /// The access for which a virtual processor trapped.
+    fn accessed(&self, vcpu: VcpuId, cause: TrapCause) -> Option<Access>
         requires there { vcpu.0 < length self.now.vcpus.items }
         requires access { HasAccess (vcpu_of (state_of self.now) vcpu.0).registers cause }
-        ensures access { option_map wanted_of result ≡ missed_of (vcpu_of (state_of self.now) vcpu.0).registers cause }
+        ensures access { option_map wanted_of result ≡ access_of (vcpu_of (state_of self.now) vcpu.0).registers cause }
         ensures some { IfSome result (λ a. 0 < a.unit) }
         ensures divides { IfSome result (λ a. 4 % a.unit ≡ 0) }
     {
         let mut registers = self.vcpus[vcpu.0 as usize].registers;
-        missed(&mut registers, cause)
+        accessed(&mut registers, cause)
     }
 
     /// The half of an access joins a processor's TLB, and with it the second-level entry.
@@ -78,6 +83,7 @@ impl Course {
         ensures rebacked { Rebacked self.old self.new }
         ensures room { self.new.pmap.room ≡ self.old.pmap.room }
         ensures cells { self.new.sent_from ≡ self.old.sent_from }
+        ensures skips { self.new.skips ≡ self.old.skips }
         ensures packets { SamePackets self.old self.new }
     {
         let asid = self.vcpus[vcpu.0 as usize].cp0.asid();
@@ -98,7 +104,8 @@ impl Course {
         });
     }
 
-    /// Gives a processor's TLB the half for which the processor trapped, where the guest itself grants the access on memory.
+    /// Gives a processor's TLB the half for which the processor trapped, where the guest itself grants the access on memory. It
+    /// doesn't while the page has a move, nor for a store into a page that needs one first.
     pub fn refill(&mut self, processor: ProcId, vcpu: VcpuId, cause: TrapCause) -> Refill
         requires sound { IsSound self.old }
         requires may { MayStep (state_of self.old) processor.0 vcpu.0 }
@@ -111,20 +118,26 @@ impl Course {
         ensures send_room { self.new.devs.send_room ≡ self.old.devs.send_room }
         ensures room { self.new.pmap.room ≡ self.old.pmap.room }
         ensures cells { self.new.sent_from ≡ self.old.sent_from }
+        ensures skips { self.new.skips ≡ self.old.skips }
         ensures packets { SamePackets self.old self.new }
     {
         row_keeps();
         traps_tell();
         read_only_needs();
-        let Some(access) = self.missed(vcpu, cause) else {
+        let Some(access) = self.accessed(vcpu, cause) else {
             return Refill::Denied;
         };
-        match self.granted(vcpu, access) {
-            Some(granted) => {
-                self.fill(processor, vcpu, access.address, granted);
-                Refill::Filled
-            }
-            None => Refill::Denied,
+        let Some(granted) = self.granted(vcpu, access) else {
+            return Refill::Denied;
+        };
+        let page = granted.page;
+        if self.pmap.open_move(page).is_some() {
+            return Refill::Waits(page);
         }
+        if is_miss(&cause) {
+            self.fill(processor, vcpu, access.address, granted);
+            return Refill::Filled;
+        }
+        Refill::Needs(page, self.need(page))
     }
 }

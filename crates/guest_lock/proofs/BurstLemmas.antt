@@ -13,7 +13,7 @@ use Rattle.guest_lock.specs.declared.burst.Burst.{Burst}
 use Rattle.guest_lock.specs.declared.burst.Stop.{Stop}
 use Rattle.guest_lock.specs.declared.burst.Stop.TheVariants as stop
 use Rattle.guest_lock.specs.Told.{with_told, shown, vcpu_shown, told_of_stop, AreSteps, Bursts}
-use Rattle.guest_lock.specs.Counted.{counted, none_made, joined}
+use Rattle.guest_lock.specs.Counted.{counted, none_made, joined, goes_on, resumed}
 use Rattle.guest_core.specs.Noting.{loaded_by}
 use Rattle.guest_lock.proofs.Notes.{append-none, with_told-none, with_told-more, steps-append, steps-loaded, shown-steps, shown-told, loaded_by-append}
 
@@ -58,6 +58,10 @@ turn-told old g b mid (Ok (turn.Stepped None)) new bursts e token =
     let are : AreSteps p v 1 (Made (Emulate p v) ∷ []) = (inr refl, tt) in
     joins old g b mid (Made (Emulate p v) ∷ []) 1 stop.Paused _ new bursts e are refl e token
 turn-told old g b mid (Ok turn.Refilled) new bursts e token = joins old g b mid [] 0 stop.Paused _ new bursts e tt (let n : b.steps ≡ b.steps + 0 = omega arith in n) e token
+turn-told old g b mid (Ok (turn.Acked q)) new bursts e token = joins old g b mid [] 0 stop.Paused _ new bursts e tt (let n : b.steps ≡ b.steps + 0 = omega arith in n) e token
+turn-told old g b mid (Ok (turn.Begun q)) new bursts e token = joins old g b mid [] 0 stop.Paused _ new bursts e tt (let n : b.steps ≡ b.steps + 0 = omega arith in n) e token
+turn-told old g b mid (Ok (turn.Finished q)) new bursts e token = joins old g b mid [] 0 stop.Paused _ new bursts e tt (let n : b.steps ≡ b.steps + 0 = omega arith in n) e token
+turn-told old g b mid (Ok (turn.Waits q set)) new bursts e token = joins old g b mid [] 0 (stop.Waits q) _ new bursts e tt (let n : b.steps ≡ b.steps + 0 = omega arith in n) refl token
 turn-told old g b mid (Ok turn.VcpuHalted) new bursts e token = joins old g b mid [] 0 stop.VcpuHalted _ new bursts e tt (let n : b.steps ≡ b.steps + 0 = omega arith in n) refl token
 turn-told old g b mid (Ok (turn.GuestEnded end)) new bursts e token = joins old g b mid [] 0 (stop.GuestEnded end) _ new bursts e tt (let n : b.steps ≡ b.steps + 0 = omega arith in n) refl token
 turn-told old g b mid (Err error) new bursts e token = joins old g b mid [] 0 stop.Memory _ new bursts e tt (let n : b.steps ≡ b.steps + 0 = omega arith in n) refl token
@@ -76,6 +80,10 @@ pub counted-turns : (b : Burst) (r : Result Turn AllocError) → (counted b r).t
 counted-turns b (Ok (turn.Stepped (Some access))) = refl
 counted-turns b (Ok (turn.Stepped None)) = refl
 counted-turns b (Ok turn.Refilled) = refl
+counted-turns b (Ok (turn.Acked q)) = refl
+counted-turns b (Ok (turn.Begun q)) = refl
+counted-turns b (Ok (turn.Finished q)) = refl
+counted-turns b (Ok (turn.Waits q set)) = refl
 counted-turns b (Ok turn.VcpuHalted) = refl
 counted-turns b (Ok (turn.GuestEnded end)) = refl
 counted-turns b (Err error) = refl
@@ -84,6 +92,10 @@ pub counted-steps : (b : Burst) (r : Result Turn AllocError) → (counted b r).s
 counted-steps b (Ok (turn.Stepped (Some access))) = omega arith
 counted-steps b (Ok (turn.Stepped None)) = omega arith
 counted-steps b (Ok turn.Refilled) = omega arith
+counted-steps b (Ok (turn.Acked q)) = omega arith
+counted-steps b (Ok (turn.Begun q)) = omega arith
+counted-steps b (Ok (turn.Finished q)) = omega arith
+counted-steps b (Ok (turn.Waits q set)) = omega arith
 counted-steps b (Ok turn.VcpuHalted) = omega arith
 counted-steps b (Ok (turn.GuestEnded end)) = omega arith
 counted-steps b (Err error) = omega arith
@@ -93,6 +105,7 @@ counted-steps b (Err error) = omega arith
 -- what stops turns changes nothing of what is loaded
 stop-loaded : (v : VcpuId) (l : Option ℕ) (s : Stop) → loaded_by l (told_of_stop v s) ≡ l
 stop-loaded v l stop.Paused = refl
+stop-loaded v l (stop.Waits page) = refl
 stop-loaded v l stop.VcpuHalted = refl
 stop-loaded v l (stop.GuestEnded end) = refl
 stop-loaded v l stop.Memory = refl
@@ -115,3 +128,18 @@ Bursts-join old mid new g first next e bursts more =
     let processor : processor_of mid ≡ processor_of old = ap processor_of token in
     let steps = subst (λ v. AreSteps (processor_of old) v next.steps more.made) vcpu (subst (λ p. AreSteps p (vcpu_shown g mid) next.steps more.made) processor more.steps) in
     joins old g first mid more.made next.steps next.stop (joined first next) new bursts e steps refl refl (more.token ∙ ap (λ v. with_told mid g (more.made ++ told_of_stop v next.stop)) vcpu)
+
+-- what was told last stays, where a burst that waited goes on
+told-on : (v : VcpuId) (s : Stop) → told_of_stop v s ≡ told_of_stop v (goes_on s)
+told-on v stop.Paused = refl
+told-on v (stop.Waits page) = refl
+told-on v stop.VcpuHalted = refl
+told-on v (stop.GuestEnded end) = refl
+told-on v stop.Memory = refl
+
+pub Bursts-waited : (old new : Token) (g : ℕ) (b : Burst) → Bursts old g b new → Bursts old g (resumed b) new
+Bursts-waited old new g b bursts = record {
+  made = bursts.made;
+  steps = bursts.steps;
+  token = bursts.token ∙ ap (λ l. with_told old g (bursts.made ++ l)) (told-on (vcpu_shown g old) b.stop);
+}

@@ -2,3 +2,4 @@ pub mod Notes
 pub mod BurstLemmas
 pub mod GuestLemmas
 pub mod Crossing
+pub mod ReceivingLemmas

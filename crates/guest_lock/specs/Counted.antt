@@ -4,6 +4,7 @@ use Rattle.std.specs.declared.alloc.AllocError.{AllocError}
 use Rattle.guest_core.specs.declared.answers.Turn.{Turn}
 use Rattle.guest_core.specs.declared.answers.Turn.TheVariants as turn
 use Rattle.guest_lock.specs.declared.burst.Burst.{Burst}
+use Rattle.guest_lock.specs.declared.burst.Stop.{Stop}
 use Rattle.guest_lock.specs.declared.burst.Stop.TheVariants as stop
 
 abbrev pub none_made : Burst
@@ -14,6 +15,10 @@ abbrev pub counted : Burst → Result Turn AllocError → Burst
 counted b (Ok (turn.Stepped (Some access))) = record b { turns = b.turns + 1; steps = b.steps + 1 }
 counted b (Ok (turn.Stepped None)) = record b { turns = b.turns + 1; steps = b.steps + 1 }
 counted b (Ok turn.Refilled) = record b { turns = b.turns + 1 }
+counted b (Ok (turn.Acked q)) = record b { turns = b.turns + 1 }
+counted b (Ok (turn.Begun q)) = record b { turns = b.turns + 1 }
+counted b (Ok (turn.Finished q)) = record b { turns = b.turns + 1 }
+counted b (Ok (turn.Waits q set)) = record b { turns = b.turns + 1; stop = stop.Waits q }
 counted b (Ok turn.VcpuHalted) = record b { turns = b.turns + 1; stop = stop.VcpuHalted }
 counted b (Ok (turn.GuestEnded end)) = record b { turns = b.turns + 1; stop = stop.GuestEnded end }
 counted b (Err e) = record b { turns = b.turns + 1; stop = stop.Memory }
@@ -21,3 +26,14 @@ counted b (Err e) = record b { turns = b.turns + 1; stop = stop.Memory }
 -- a burst and the next one; the count of turns stands still at its type's end
 abbrev pub joined : Burst → Burst → Burst
 joined first next = record { turns = min (first.turns + next.turns) (2 ^ 64 - 1); steps = first.steps + next.steps; stop = next.stop }
+
+-- a burst that stopped to wait goes on
+abbrev pub goes_on : Stop → Stop
+goes_on stop.Paused = stop.Paused
+goes_on (stop.Waits page) = stop.Paused
+goes_on stop.VcpuHalted = stop.VcpuHalted
+goes_on (stop.GuestEnded end) = stop.GuestEnded end
+goes_on stop.Memory = stop.Memory
+
+abbrev pub resumed : Burst → Burst
+resumed b = record b { stop = goes_on b.stop }

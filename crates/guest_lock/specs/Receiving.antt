@@ -1,8 +1,8 @@
 -- How a guest is asked for a packet before a turn.
-use Rattle.std.specs.Prelude.{◌≡◌, Result}
+use Rattle.std.specs.Prelude.{◌≡◌, ℕ, zero, suc, Result}
 use Rattle.std.specs.declared.alloc.AllocError.{AllocError}
 use Rattle.guest_core.specs.GuestView.{Monitored}
-use Rattle.guest_core.specs.GuestCalls.{Stays}
+use Rattle.guest_core.specs.Making.{Stays}
 use Rattle.guest_core.specs.PacketCalls.{TakesPacket}
 use Rattle.guest_core.specs.declared.answers.Packeted.{Packeted}
 
@@ -13,3 +13,12 @@ pub record HasCalled (old new : Monitored) : Type 0 where
   pub takes : TakesPacket old mid answer
   pub stays : Stays mid new
   pub passes : new.passes ≡ mid.passes
+
+-- so it was so many times
+abbrev pub HasCalledTimes : ℕ → Monitored → Monitored → Type 0
+HasCalledTimes zero old new = new ≡ old
+HasCalledTimes (suc n) old new = (mid : Monitored) × HasCalledTimes n old mid × HasCalled mid new
+
+pub record HasCalledOften (old new : Monitored) : Type 0 where
+  pub times : ℕ
+  pub called : HasCalledTimes times old new

@@ -10,6 +10,8 @@ use Rattle.shootdown.specs.Notes.{Token, sided, with_side}
 use Rattle.guest_core.specs.GuestView.{Monitored}
 use Rattle.guest_core.specs.Noting.{shows_loaded}
 use Rattle.guest_core.specs.GuestCalls.{processor_of, told_of_load}
+use Rattle.guest_core.specs.declared.answers.Asked.{Asked}
+use Rattle.guest_core.specs.declared.answers.Asked.TheVariants.{Busy}
 use Rattle.guest_core.specs.declared.answers.Loaded.{Loaded}
 use Rattle.guest_core.specs.declared.answers.Loaded.TheVariants.{On}
 use Rattle.guest_lock.specs.declared.burst.Burst.{Burst}
@@ -42,6 +44,13 @@ abbrev pub HasWaited : Result Loaded AllocError → Type 0
 HasWaited (Ok (On q)) = ⊥
 HasWaited result = Unit {0}
 
+-- ---- asks
+
+-- who asked and waited isn't told that the page has another move
+abbrev pub HasAsked : Result Asked AllocError → Type 0
+HasAsked (Ok (Busy set)) = ⊥
+HasAsked result = Unit {0}
+
 -- ---- bursts
 
 -- the note of an own step
@@ -57,6 +66,7 @@ AreSteps p v n notes = ⊥
 -- what is told last
 abbrev pub told_of_stop : VcpuId → Stop → List Note
 told_of_stop v stop.Paused = []
+told_of_stop v (stop.Waits page) = []
 told_of_stop v stop.VcpuHalted = Halted v ∷ []
 told_of_stop v (stop.GuestEnded end) = Ended end ∷ []
 told_of_stop v stop.Memory = []

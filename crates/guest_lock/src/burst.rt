@@ -1,9 +1,9 @@
 //! What a burst of turns did.
 ghost use Rattle.std.specs.Prelude.{◌≡◌, ◌+◌, ◌<◌, ◌^◌};
 ghost use Rattle.std.specs.declared.alloc.AllocError.{AllocError};
-ghost use Rattle.guest_lock.specs.Counted.{counted, none_made, joined};
+ghost use Rattle.guest_lock.specs.Counted.{counted, none_made, joined, resumed};
 
-use base_words::End;
+use base_words::{End, Ppn};
 use guest_core::Turn;
 use std::alloc::AllocError;
 
@@ -13,8 +13,10 @@ pub const BURST_TURNS: u64 = 64;
 /// How a burst came to its end.
 #[derive(Clone, Copy, Debug, PartialEq, Eq)]
 pub enum Stop {
-    /// Each turn was a step or a refill.
+    /// Each turn was a step or a refill, or acknowledged, began or finished a move of a page.
     Paused,
+    /// The step at hand is on this page, which has a move that isn't over.
+    Waits(Ppn),
     /// The virtual processor has halted.
     VcpuHalted,
     /// The guest has ended.
@@ -56,10 +58,24 @@ impl Burst {
         self.turns += 1;
         match turn {
             Ok(Turn::Stepped(_)) => self.steps += 1,
-            Ok(Turn::Refilled) => {}
+            Ok(Turn::Refilled | Turn::Acked(_) | Turn::Begun(_) | Turn::Finished(_)) => {}
+            Ok(Turn::Waits(page, _)) => self.stop = Stop::Waits(page),
             Ok(Turn::VcpuHalted) => self.stop = Stop::VcpuHalted,
             Ok(Turn::GuestEnded(end)) => self.stop = Stop::GuestEnded(end),
             Err(_) => self.stop = Stop::Memory,
+        }
+    }
+
+    /// The same burst, which goes on after a wait for a move.
+    pub fn resume(self) -> Burst
+        ensures { result ≡ resumed self }
+    {
+        match self.stop {
+            Stop::Waits(_) => Burst {
+                stop: Stop::Paused,
+                ..self
+            },
+            _ => self,
         }
     }
 

@@ -1,18 +1,19 @@
 //! A guest under its lock.
-ghost use Rattle.std.specs.Prelude.{◌≡◌, ◌≢◌, ◌⊎◌, ◌≤◌, ◌∷◌, [], None};
+ghost use Rattle.std.specs.Prelude.{◌≡◌, ◌≢◌, ◌⊎◌, ◌<◌, ◌≤◌, ◌∷◌, [], None};
 ghost use Rattle.base_words.specs.declared.events.Event.TheVariants.{Unload};
 ghost use Rattle.shootdown.specs.declared.notes.Note.TheVariants.{Made};
 ghost use Rattle.guest_core.specs.GuestCalls.{processor_of, told_of_turn};
 ghost use Rattle.guest_core.specs.GuestView.{shared_by};
 ghost use Rattle.guest_lock.specs.declared.burst.Stop.TheVariants.{Paused};
-ghost use Rattle.guest_lock.specs.Fits.{Fits, HasVcpu};
-ghost use Rattle.guest_lock.specs.Told.{with_told, shown, vcpu_shown, told_of_loading, HasWaited, Bursts};
+ghost use Rattle.guest_core.specs.MoveCalls.{told_of_ask};
+ghost use Rattle.guest_lock.specs.Fits.{Fits, HasVcpu, MayAskOf};
+ghost use Rattle.guest_lock.specs.Told.{with_told, shown, vcpu_shown, told_of_loading, HasWaited, HasAsked, Bursts};
 ghost use Rattle.guest_lock.specs.Guests.{IsGuestOf};
 
 use crate::kept::Kept;
 use crate::{BURST_TURNS, Burst, Starts};
-use base_words::VcpuId;
-use guest_core::{Guest, Loaded, Resources, Turn};
+use base_words::{MoveKind, NodeId, Ppn, VcpuId};
+use guest_core::{Asked, Guest, Loaded, Ready, Resources, Turn};
 use outside_io::{Gate, GatePoint};
 use shootdown::ProcToken;
 use std::alloc::{AllocError, Global};
@@ -34,6 +35,7 @@ impl<N: Starts, const G: u8> GuestCell<N, G> {
         GuestCell {
             guest: Mutex::new(Kept {
                 guest,
+                moved: false,
                 of: PhantomData,
             }),
             moved: Condvar::new(),
@@ -84,9 +86,7 @@ impl<N: Starts, const G: u8> GuestCell<N, G> {
         let mut kept = self.guest.lock(rt);
         kept.agree(token);
         let turn = kept.turn(rt, alloc, token, resources, gate, at);
-        if kept.guest.end().is_some() {
-            self.moved.notify_all();
-        }
+        self.wake(&mut kept);
         turn
     }
 
@@ -111,9 +111,7 @@ impl<N: Starts, const G: u8> GuestCell<N, G> {
     {
         let mut kept = self.guest.lock(rt);
         let burst = kept.burst(rt, alloc, token, resources, gate, at, steps);
-        if kept.guest.end().is_some() {
-            self.moved.notify_all();
-        }
+        self.wake(&mut kept);
         burst
     }
 
@@ -127,12 +125,120 @@ impl<N: Starts, const G: u8> GuestCell<N, G> {
         self.moved.notify_all();
     }
 
+    /// Wakes all who wait, where something has changed for which they may wait.
+    #[inline]
+    fn wake(&self, kept: &mut Kept<N, G>)
+        ensures { kept.new.guest ≡ kept.old.guest }
+    {
+        if kept.take_moved() || kept.guest.end().is_some() {
+            self.moved.notify_all();
+        }
+    }
+
+    /// Waits while a step of the token's processor on this page has to: the guest hasn't ended, the page has a move that waits for some
+    /// processor, and no page waits for this one. The token is told nothing.
+    pub fn wait_turn<R: Wait>(&self, rt: &R, token: &ProcToken, page: Ppn)
+        requires { Fits N.starts N.board token.now }
+    {
+        let mut kept = self.guest.lock(rt);
+        for _ in rt.forever() {
+            if !kept.guest.must_wait(token.number(), page) {
+                return;
+            }
+            kept = self.moved.wait(rt, kept);
+        }
+    }
+
+    /// Asks for a move of a page by the plan, and waits while the page has another one, which it finishes where nobody waits for it any
+    /// more.
+    fn begin<R: Wait>(
+        &self,
+        rt: &R,
+        alloc: Global,
+        token: &mut ProcToken,
+        page: Ppn,
+        kind: MoveKind,
+        node: NodeId,
+        resources: &Resources,
+    ) -> Result<Asked, AllocError>
+        requires token { Fits N.starts N.board token.old }
+        requires may { MayAskOf N.starts G (record { page = page.0; kind = kind; node = node.0 }) }
+        requires free { shown G token.old ≡ None }
+        requires shared { shared_by resources.now ≡ N.shared }
+        ensures told { token.new ≡ with_told token.old G (told_of_ask (record { page = page.0; kind = kind; node = node.0 }) result) }
+        ensures asked { HasAsked result }
+    {
+        let mut kept = self.guest.lock(rt);
+        for _ in rt.forever() {
+            match kept.ask(alloc, token, page, kind, node, resources) {
+                Ok(Asked::Busy(_)) => match kept.guest.finish_ready(page, resources) {
+                    Ready::Waits(_) => kept = self.moved.wait(rt, kept),
+                    Ready::Finished | Ready::NoMove => self.moved.notify_all(),
+                },
+                Ok(Asked::Begun) => {
+                    self.moved.notify_all();
+                    return Ok(Asked::Begun);
+                }
+                Ok(Asked::Skipped) => return Ok(Asked::Skipped),
+                Err(error) => return Err(error),
+            }
+        }
+        unreachable!()
+    }
+
+    /// Finishes the move of a page, and waits while it waits for processors.
+    fn finish<R: Wait>(&self, rt: &R, page: Ppn, resources: &Resources)
+        requires { shared_by resources.now ≡ N.shared }
+    {
+        let mut kept = self.guest.lock(rt);
+        for _ in rt.forever() {
+            match kept.guest.finish_ready(page, resources) {
+                Ready::Waits(_) => kept = self.moved.wait(rt, kept),
+                Ready::Finished | Ready::NoMove => {
+                    self.moved.notify_all();
+                    return;
+                }
+            }
+        }
+    }
+
+    /// Asks for a move of a page by the plan, with nothing loaded on the token's processor; waits while the page has another move, and
+    /// until its own is finished. It never answers `Busy`, and the token is told of the ask once. After want of memory no entry was made
+    /// but the ends of others' moves.
+    pub fn ask<R: Wait>(
+        &self,
+        rt: &R,
+        alloc: Global,
+        token: &mut ProcToken,
+        page: Ppn,
+        kind: MoveKind,
+        node: NodeId,
+        resources: &Resources,
+    ) -> Result<Asked, AllocError>
+        requires token { Fits N.starts N.board token.old }
+        requires may { MayAskOf N.starts G (record { page = page.0; kind = kind; node = node.0 }) }
+        requires free { shown G token.old ≡ None }
+        requires shared { shared_by resources.now ≡ N.shared }
+        ensures told { token.new ≡ with_told token.old G (told_of_ask (record { page = page.0; kind = kind; node = node.0 }) result) }
+        ensures asked { HasAsked result }
+    {
+        let asked = self.begin(rt, alloc, token, page, kind, node, resources)?;
+        if asked == Asked::Begun {
+            self.finish(rt, page, resources);
+        }
+        Ok(asked)
+    }
+
     /// The guest, out of its lock.
     pub fn take_out(self) -> Guest
         ensures { IsGuestOf N.starts N.board N.shared G result }
     {
         let GuestCell { guest, moved: _ } = self;
-        let Kept { guest, of: _ } = guest.into_inner();
+        let Kept {
+            guest,
+            moved: _,
+            of: _,
+        } = guest.into_inner();
         guest
     }
 }

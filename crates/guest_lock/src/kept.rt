@@ -6,14 +6,15 @@ ghost use Rattle.shootdown.specs.declared.notes.Note.TheVariants.{Made};
 ghost use Rattle.guest_core.specs.GuestView.{AreOf, shared_by};
 ghost use Rattle.guest_core.specs.GuestCalls.{processor_of, told_of_turn};
 ghost use Rattle.guest_lock.specs.declared.burst.Stop.TheVariants.{Paused};
-ghost use Rattle.guest_lock.specs.Fits.{Fits, HasVcpu};
-ghost use Rattle.guest_lock.specs.Receiving.{HasCalled};
+ghost use Rattle.guest_core.specs.MoveCalls.{told_of_ask};
+ghost use Rattle.guest_lock.specs.Fits.{Fits, HasVcpu, MayAskOf};
+ghost use Rattle.guest_lock.specs.Receiving.{HasCalled, HasCalledOften};
 ghost use Rattle.guest_lock.specs.Told.{with_told, shown, vcpu_shown, told_of_loading, AreInStep, Bursts};
 
 use crate::Starts;
 use crate::burst::{BURST_TURNS, Burst, Stop};
-use base_words::VcpuId;
-use guest_core::{Guest, Loaded, Resources, Turn};
+use base_words::{MoveKind, NodeId, Ppn, VcpuId};
+use guest_core::{Asked, Guest, Loaded, Packeted, Resources, Turn};
 use outside_io::{Gate, GatePoint};
 use shootdown::ProcToken;
 use std::alloc::{AllocError, Global};
@@ -24,6 +25,8 @@ use std::sync::Wait;
 #[derive(Drop)]
 pub(crate) struct Kept<N: Starts, const G: u8> {
     pub(crate) guest: Guest,
+    /// Whether something has changed since, for which a processor may wait.
+    pub(crate) moved: bool,
     pub(crate) of: PhantomData<N>,
     ghost number_is: { guest.number ≡ G },
     ghost start_is: { slice_get N.starts G ≡ Some guest.start },
@@ -31,6 +34,21 @@ pub(crate) struct Kept<N: Starts, const G: u8> {
     ghost shared_is: { AreOf N.shared guest },
     ghost own_is: { guest.passes.guest.0 ≡ G },
     ghost goes_on: { guest.state.end ≢ Some Budget },
+}
+
+/// A packet is asked for so often before a turn at most: where moves are in its way, two may have to end and one to begin before it comes
+/// in or waits.
+const PACKET_CALLS: u64 = 4;
+
+/// Whether a processor may have waited for what a turn did: it acknowledged, began or finished a move, or found that the guest had ended. A
+/// step that halts the last virtual processor ends the guest, too, which its next turn finds.
+#[inline]
+fn changes_moves(turn: &Result<Turn, AllocError>) -> bool {
+    match turn {
+        Ok(Turn::Acked(_) | Turn::Begun(_) | Turn::Finished(_) | Turn::GuestEnded(_)) => true,
+        Ok(Turn::Stepped(_) | Turn::Refilled | Turn::Waits(..) | Turn::VcpuHalted) => false,
+        Err(_) => false,
+    }
 }
 
 impl<N: Starts, const G: u8> Kept<N, G> {
@@ -56,7 +74,26 @@ impl<N: Starts, const G: u8> Kept<N, G> {
         self.guest.unload(token);
     }
 
-    /// A packet may come into the page that is armed. There is room for a turn then.
+    /// A packet may come into the page that is armed, once. There is room for a call then.
+    fn receive_once<R: Wait>(
+        &mut self,
+        rt: &R,
+        alloc: Global,
+        resources: &Resources,
+    ) -> Result<Packeted, AllocError>
+        requires room { 2 ≤ self.old.guest.room }
+        requires shared { shared_by resources.now ≡ N.shared }
+        ensures called { HasCalled self.old.guest self.new.guest }
+        ensures room { OnOk result (2 ≤ self.new.guest.room) }
+        ensures notes { self.new.guest.notes ≡ self.old.guest.notes }
+    {
+        let packeted = self.guest.packet_in(rt, alloc, resources)?;
+        self.guest.make_room()?;
+        Ok(packeted)
+    }
+
+    /// A packet may come into the page that is armed, once the moves are begun and finished that are in its way. There is room for a turn
+    /// then.
     #[cold]
     #[inline(never)]
     fn receive<R: Wait>(
@@ -67,12 +104,62 @@ impl<N: Starts, const G: u8> Kept<N, G> {
     ) -> Result<(), AllocError>
         requires room { 2 ≤ self.old.guest.room }
         requires shared { shared_by resources.now ≡ N.shared }
-        ensures called { HasCalled self.old.guest self.new.guest }
+        ensures called { HasCalledOften self.old.guest self.new.guest }
         ensures room { OnOk result (2 ≤ self.new.guest.room) }
         ensures notes { self.new.guest.notes ≡ self.old.guest.notes }
     {
-        self.guest.packet_in(rt, alloc, resources)?;
-        self.guest.make_room()
+        for _call in 0..PACKET_CALLS {
+            match self.receive_once(rt, alloc, resources)? {
+                Packeted::Begun(_) | Packeted::Finished(_) => self.moved = true,
+                Packeted::Delivered
+                | Packeted::Waits(..)
+                | Packeted::NoneInHand
+                | Packeted::NotArmed => break,
+            }
+        }
+        Ok(())
+    }
+
+    /// Asks for a move of a page by the plan, with nothing loaded on the token's processor.
+    pub(crate) fn ask(
+        &mut self,
+        alloc: Global,
+        token: &mut ProcToken,
+        page: Ppn,
+        kind: MoveKind,
+        node: NodeId,
+        resources: &Resources,
+    ) -> Result<Asked, AllocError>
+        requires token { Fits N.starts N.board token.old }
+        requires may { MayAskOf N.starts G (record { page = page.0; kind = kind; node = node.0 }) }
+        requires free { shown G token.old ≡ None }
+        requires shared { shared_by resources.now ≡ N.shared }
+        ensures { token.new ≡ with_told token.old G (told_of_ask (record { page = page.0; kind = kind; node = node.0 }) result) }
+    {
+        self.guest.make_room()?;
+        self.guest.agree(token);
+        self.guest
+            .ask_move(alloc, token, page, kind, node, resources)
+    }
+
+    /// Whether something has changed since the last call of this, for which a processor may wait.
+    #[inline]
+    pub(crate) fn take_moved(&mut self) -> bool
+        ensures { self.new.guest ≡ self.old.guest }
+    {
+        let moved = self.moved;
+        self.moved = false;
+        moved
+    }
+
+    /// Notes that something has changed, where a turn did what a processor may have waited for.
+    #[inline]
+    fn mark(&mut self, turn: &Result<Turn, AllocError>)
+        ensures { self.new.guest ≡ self.old.guest }
+    {
+        if changes_moves(turn) {
+            self.moved = true;
+        }
     }
 
     /// Tells that what the token noted of the guest is what the guest's seat noted of the token's processor.
@@ -109,7 +196,9 @@ impl<N: Starts, const G: u8> Kept<N, G> {
             self.receive(rt, alloc, resources)?;
         }
         self.guest.tells_loaded();
-        self.guest.turn(rt, alloc, token, resources)
+        let turn = self.guest.turn(rt, alloc, token, resources);
+        self.mark(&turn);
+        turn
     }
 
     /// Makes turns until one is neither a step nor a refill, there were so many steps, or there were enough turns.

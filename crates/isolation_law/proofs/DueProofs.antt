@@ -269,7 +269,7 @@ start-fit b =
 
 -- ---- along a run
 
-row-going : (s t : GuestState) (e : Event) → Row s e t → t.end ≡ None → s.end ≡ None
+pub row-going : (s t : GuestState) (e : Event) → Row s e t → t.end ≡ None → s.end ≡ None
 row-going s t (Load p v) row on = row.goes_on.not_ended
 row-going s t (Unload p) row on = sym (ap (λ (x : GuestState). x.end) row.after) ∙ on
 row-going s t (Direct p v) row on = row.goes_on.not_ended

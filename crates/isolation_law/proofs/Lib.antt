@@ -65,4 +65,6 @@ mod LostProofs
 mod FailureProofs
 mod TellsProofs
 mod DueProofs
+mod PageCountProofs
 mod UseProofs
+mod MoveCountProofs

@@ -30,7 +30,7 @@ all_same (suc n) zero x = refl
 all_same (suc n) (suc p) x = all_same n p x
 
 -- the pages
-count-pages : (fs : List Found) (memory : List ℕ) → length (pages_at_start fs memory) ≡ length fs
+pub count-pages : (fs : List Found) (memory : List ℕ) → length (pages_at_start fs memory) ≡ length fs
 count-pages [] memory = refl
 count-pages (f ∷ fs) memory = ap suc (count-pages fs (drop 4096 memory))
 

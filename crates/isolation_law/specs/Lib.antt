@@ -36,5 +36,6 @@ pub mod Start
 pub mod Holdings
 pub mod Exchange
 pub mod UseChange
+pub mod MoveCount
 pub mod Isolation
 pub mod Worlds

@@ -1,8 +1,11 @@
 //! What one entry keeps and does, and how a run grows by it: for the calls that make entries.
-ghost use Rattle.std.specs.Prelude.{◌≡◌, ◌≢◌, ◌⊎◌, ℕ, ◌+◌, ◌*◌, ◌/◌, ◌%◌, List, [], ◌∷◌, ◌++◌, ◌<◌, ◌≤◌, length, take, true, false, None, Some, Ok, Err};
+ghost use Rattle.std.specs.Prelude.{◌≡◌, ◌≢◌, ◌⊎◌, ℕ, suc, ◌+◌, ◌*◌, ◌/◌, ◌%◌, List, [], ◌∷◌, ◌++◌, ◌<◌, ◌≤◌, length, take, true, false, None, Some, Ok, Err};
 ghost use Rattle.private_machine.specs.Links.{page_bytes};
 ghost use Rattle.base_words.specs.Membership.{Has};
+ghost use Rattle.base_words.specs.declared.events.End.{End};
 ghost use Rattle.base_words.specs.declared.events.Event.{Event};
+ghost use Rattle.base_words.specs.declared.moves.By.{By};
+ghost use Rattle.base_words.specs.declared.moves.MoveKind.{MoveKind};
 ghost use Rattle.base_words.specs.declared.exception.Use.TheVariants.{Load};
 ghost use Rattle.private_machine.specs.PrivateRun.{private_run};
 ghost use Rattle.base_words.specs.declared.regs.Regs.{Regs};
@@ -22,6 +25,12 @@ ghost use Rattle.isolation_law.specs.Traps.{step_on};
 ghost use Rattle.isolation_law.specs.DataWithin.{IsWithinPages};
 ghost use Rattle.isolation_law.specs.DuesFit.{DuesFit};
 ghost use Rattle.isolation_law.specs.PageRules.{needs_spare};
+ghost use Rattle.isolation_law.specs.EndRows.{CellFailsIn, LetsGo, Ends};
+ghost use Rattle.isolation_law.specs.LoadRows.{Loads, Unloads, Acks};
+ghost use Rattle.isolation_law.specs.MoveCount.{moving_count};
+ghost use Rattle.isolation_law.specs.MoveRows.{Begins, Finishes};
+ghost use Rattle.isolation_law.specs.RefillRow.{Refills};
+ghost use Rattle.isolation_law.specs.StepRows.{Steps, Emulates, EndsRead};
 ghost use Rattle.isolation_law.specs.SkipRow.{Skips, is_skip};
 ghost use Rattle.isolation_law.specs.Start.{Boot, IsBoot, start};
 ghost use Rattle.isolation_law.specs.DirectStep.{held_of, with_inputs};
@@ -30,7 +39,7 @@ ghost use Rattle.isolation_law.specs.Coherence.{Coherent};
 ghost use Rattle.isolation_law.specs.LiveCells.{UsesLive};
 ghost use Rattle.isolation_law.specs.OwnHistory.{own};
 ghost use Rattle.isolation_law.specs.Phases.{GoesOn};
-ghost use Rattle.isolation_law.specs.PacketRows.{ComesToHand};
+ghost use Rattle.isolation_law.specs.PacketRows.{ComesToHand, Receives, EndsDelivery, Discards};
 ghost use Rattle.isolation_law.specs.MachineEvent.{Row};
 ghost use Rattle.isolation_law.specs.Run.{Run};
 ghost use Rattle.isolation_law.specs.SecondServes.{SecondServes};
@@ -66,6 +75,36 @@ pub fn dues_fit()
     ensures row { (s t : GuestState) (e : Event) → (s.end ≡ None → Coherent s) → DuesFit s → Row s e t → DuesFit t }
     ensures hand { (s t : GuestState) → DuesFit s → ComesToHand s t → DuesFit t }
     ensures run { (b : Boot) (journal : List Event) (t : GuestState) → IsBoot b → Run (start b) journal t → DuesFit t }
+{}
+
+/// Until its end a guest has as many pages as it was booted with: no entry adds or takes away a page, nor does a packet that comes
+/// to hand.
+pub fn pages_stay()
+    ensures row { (s t : GuestState) (e : Event) → Coherent s → Row s e t → t.end ≡ None → length t.pages ≡ length s.pages }
+    ensures hand { (s t : GuestState) → ComesToHand s t → length t.pages ≡ length s.pages }
+    ensures run { (b : Boot) (journal : List Event) (t : GuestState) → IsBoot b → Run (start b) journal t → t.end ≡ None → length t.pages ≡ b.image.pages }
+{}
+
+/// How many pages have an open move: one more once a move begins, one fewer once it is over, none once the guest has ended, and else as many
+/// as before.
+pub fn moves_counted()
+    ensures loads { (s t : GuestState) (p v : ℕ) → Loads s p v t → moving_count t ≡ moving_count s }
+    ensures unloads { (s t : GuestState) (p : ℕ) → Unloads s p t → moving_count t ≡ moving_count s }
+    ensures steps { (s t : GuestState) (p v : ℕ) → Steps s p v t → moving_count t ≡ moving_count s }
+    ensures refills { (s t : GuestState) (p : ℕ) → Refills s p t → moving_count t ≡ moving_count s }
+    ensures emulates { (s t : GuestState) (p v : ℕ) → Emulates s p v t → moving_count t ≡ moving_count s }
+    ensures ends_read { (s t : GuestState) (p v : ℕ) → EndsRead s p v t → suc (moving_count t) ≡ moving_count s }
+    ensures begins { (s t : GuestState) (q : ℕ) (kind : MoveKind) (node : ℕ) (by : By) → Begins s q kind node by t → moving_count t ≡ suc (moving_count s) }
+    ensures acks { (s t : GuestState) (p q : ℕ) → Acks s p q t → moving_count t ≡ moving_count s }
+    ensures finishes { (s t : GuestState) (q : ℕ) → Finishes s q t → suc (moving_count t) ≡ moving_count s }
+    ensures lets_go { (s t : GuestState) (q : ℕ) → LetsGo s q t → suc (moving_count t) ≡ moving_count s }
+    ensures comes_to_hand { (s t : GuestState) → ComesToHand s t → moving_count t ≡ moving_count s }
+    ensures receives { (s t : GuestState) (k : ℕ) → Receives s k t → moving_count t ≡ moving_count s }
+    ensures ends_delivery { (s t : GuestState) (k : ℕ) → EndsDelivery s k t → suc (moving_count t) ≡ moving_count s }
+    ensures discards { (s t : GuestState) (k : ℕ) → Discards s k t → moving_count t ≡ moving_count s }
+    ensures skips { (s t : GuestState) (k : ℕ) → Skips s k t → moving_count t ≡ moving_count s }
+    ensures fails { (s t : GuestState) (c : ℕ) → CellFailsIn s c t → moving_count t ≡ moving_count s }
+    ensures ends { (s t : GuestState) (end : End) → Ends s end t → moving_count t ≡ 0 }
 {}
 
 /// Where a page needs a spare there is one.

@@ -8,7 +8,7 @@ use Rattle.outside_io.specs.Writing.{SinkView, Writes}
 use Rattle.guest_core.specs.declared.records.RunRecord.{RunRecord}
 use Rattle.admission.specs.declared.faults.Fault.{Fault}
 use Rattle.admission.specs.declared.faults.Refusal.{Refusal}
-use Rattle.admission.specs.Jobs.{Job, Monitored, Alone, Litmus, job_of}
+use Rattle.admission.specs.Jobs.{Job, Monitored, Alone, Litmus, Listing, job_of}
 use Rattle.admission.specs.Ready.{ReadsAs}
 use Rattle.page_slots.specs.declared.op.Litmus.{Litmus as Accesses}
 use Rattle.litmus_file.specs.Reads.{Read as LitmusRead}
@@ -35,6 +35,7 @@ litmus-starved (Err fault) sink = inr (record { answer = refl; sink = refl })
 pub Ends-starved : StarvesBeforeAny → (r : Result Job Fault) (sink : SinkView) (out : RunRecord) → out ≡ nothing → Ends r sink sink out 1
 Ends-starved starves (Ok (Monitored d starts sums)) sink out empty = Runs-starved starves (Monitored d starts sums) sink out empty
 Ends-starved starves (Ok (Alone d starts)) sink out empty = Runs-starved starves (Alone d starts) sink out empty
+Ends-starved starves (Ok (Listing assembly)) sink out empty = Runs-starved starves (Listing assembly) sink out empty
 Ends-starved starves (Ok (Litmus bytes)) sink out empty = (empty, litmus-starved (litmus_of bytes) sink)
 Ends-starved starves (Err fault) sink out empty = (empty, inr (record { answer = refl; sink = starves sink (fault_line fault) }))
 

@@ -3,3 +3,4 @@ pub mod EndLemmas
 pub mod SourceLemmas
 pub mod MonitoredLemmas
 pub mod Statuses
+pub mod TextRuns

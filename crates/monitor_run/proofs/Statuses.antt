@@ -4,10 +4,12 @@ use Rattle.base_words.specs.Counts.{Rose}
 use Rattle.outside_io.specs.Reading.{Told, Absent, Holds, ShelfView, MayBe}
 use Rattle.outside_io.specs.Writing.{SinkView}
 use Rattle.guest_core.specs.declared.records.RunRecord.{RunRecord}
+use Rattle.guest_asm.specs.declared.fault.AsmCause.{AsmCause}
 use Rattle.admission.specs.declared.faults.Fault.{Fault}
-use Rattle.admission.specs.declared.faults.Fault.TheVariants.{Words, Read, Long, Description, BadImage, Unbuilt, CacheAdmission, Admission}
+use Rattle.admission.specs.declared.faults.Fault.TheVariants.{Words, Read, Long, Asm, Description, BadImage, Unbuilt, CacheAdmission, Admission}
 use Rattle.admission.specs.Chain.{Files}
-use Rattle.admission.specs.Jobs.{Job, Monitored, Alone, Litmus, job_of}
+use Rattle.admission.specs.Texts.{RefusesLine}
+use Rattle.admission.specs.Jobs.{Job, Monitored, Alone, Litmus, Listing, job_of}
 use Rattle.admission.specs.Ready.{AreGiven}
 use Rattle.admission.specs.Stages.{FailedAt}
 use Rattle.admission.specs.Steady.{Extends, IsSteady, NeverReads}
@@ -18,7 +20,7 @@ use Rattle.litmus_file.specs.Reads.{Read as LitmusRead}
 use Rattle.litmus_file.specs.File.{litmus_of}
 use Rattle.litmus_run.specs.Command.{Answers as LitmusAnswers}
 use Rattle.monitor_run.specs.Ends.{Ends, Runs}
-use Rattle.monitor_run.specs.Exactly.{AreTold, Failed, FailedFile, IsExactly, RefusedLitmus, due_status, litmus_status}
+use Rattle.monitor_run.specs.Exactly.{AreTold, Failed, FailedFile, IsExactly, RefusedLitmus, RefusedText, due_status, litmus_status}
 use Rattle.monitor_run.specs.FaultLines.{status_of}
 use Rattle.monitor_run.specs.Headline.{Answers, IsRead}
 
@@ -45,6 +47,7 @@ answers_status (Err fault) c d status (inr wants) = inr (inl wants.answer)
 ends_status : (r : Result Job Fault) (c d : SinkView) (out : RunRecord) (status : ℕ) → Ends r c d out status → OrFails (due_status r) c d status
 ends_status (Ok (Monitored m starts sums)) c d out status runs = runs_status (Monitored m starts sums) c d out status runs
 ends_status (Ok (Alone m starts)) c d out status runs = runs_status (Alone m starts) c d out status runs
+ends_status (Ok (Listing assembly)) c d out status runs = runs_status (Listing assembly) c d out status runs
 ends_status (Ok (Litmus bytes)) c d out status (empty, answers) = answers_status (litmus_of bytes) c d status answers
 ends_status (Err fault) c d out status (empty, inl refuses) = inl refuses.answer
 ends_status (Err fault) c d out status (empty, inr wants) = inr (inl wants.answer)
@@ -66,10 +69,12 @@ litmus_ten (Err fault) is = (fault, refl)
 due_two : (r : Result Job Fault) → due_status r ≡ 2 → r ≡ Err Words
 due_two (Ok (Monitored m starts sums)) is = absurd (omega (arith, is))
 due_two (Ok (Alone m starts)) is = absurd (omega (arith, is))
+due_two (Ok (Listing assembly)) is = absurd (omega (arith, is))
 due_two (Ok (Litmus bytes)) is = absurd (litmus_not (litmus_of bytes) 2 (omega arith) (omega arith) is)
 due_two (Err Words) is = refl
 due_two (Err (Read name)) is = absurd (omega (arith, is))
 due_two (Err (Long name)) is = absurd (omega (arith, is))
+due_two (Err (Asm line cause)) is = absurd (omega (arith, is))
 due_two (Err (Description fault)) is = absurd (omega (arith, is))
 due_two (Err (BadImage guest fault)) is = absurd (omega (arith, is))
 due_two (Err (Unbuilt key)) is = absurd (omega (arith, is))
@@ -79,10 +84,12 @@ due_two (Err (Admission guest needs has)) is = absurd (omega (arith, is))
 due_three : (r : Result Job Fault) → due_status r ≡ 3 → (name : List ℕ) × (r ≡ Err (Read name))
 due_three (Ok (Monitored m starts sums)) is = absurd (omega (arith, is))
 due_three (Ok (Alone m starts)) is = absurd (omega (arith, is))
+due_three (Ok (Listing assembly)) is = absurd (omega (arith, is))
 due_three (Ok (Litmus bytes)) is = absurd (litmus_not (litmus_of bytes) 3 (omega arith) (omega arith) is)
 due_three (Err Words) is = absurd (omega (arith, is))
 due_three (Err (Read name)) is = (name, refl)
 due_three (Err (Long name)) is = absurd (omega (arith, is))
+due_three (Err (Asm line cause)) is = absurd (omega (arith, is))
 due_three (Err (Description fault)) is = absurd (omega (arith, is))
 due_three (Err (BadImage guest fault)) is = absurd (omega (arith, is))
 due_three (Err (Unbuilt key)) is = absurd (omega (arith, is))
@@ -92,23 +99,42 @@ due_three (Err (Admission guest needs has)) is = absurd (omega (arith, is))
 not_four : (r : Result Job Fault) → due_status r ≡ 4 → ⊥
 not_four (Ok (Monitored m starts sums)) is = omega (arith, is)
 not_four (Ok (Alone m starts)) is = omega (arith, is)
+not_four (Ok (Listing assembly)) is = omega (arith, is)
 not_four (Ok (Litmus bytes)) is = litmus_not (litmus_of bytes) 4 (omega arith) (omega arith) is
 not_four (Err Words) is = omega (arith, is)
 not_four (Err (Read name)) is = omega (arith, is)
 not_four (Err (Long name)) is = omega (arith, is)
+not_four (Err (Asm line cause)) is = omega (arith, is)
 not_four (Err (Description fault)) is = omega (arith, is)
 not_four (Err (BadImage guest fault)) is = omega (arith, is)
 not_four (Err (Unbuilt key)) is = omega (arith, is)
 not_four (Err (CacheAdmission cell needs has)) is = omega (arith, is)
 not_four (Err (Admission guest needs has)) is = omega (arith, is)
 
+due_nine : (r : Result Job Fault) → due_status r ≡ 9 → (line : ℕ) × (cause : AsmCause) × (r ≡ Err (Asm line cause))
+due_nine (Ok (Monitored m starts sums)) is = absurd (omega (arith, is))
+due_nine (Ok (Alone m starts)) is = absurd (omega (arith, is))
+due_nine (Ok (Listing assembly)) is = absurd (omega (arith, is))
+due_nine (Ok (Litmus bytes)) is = absurd (litmus_not (litmus_of bytes) 9 (omega arith) (omega arith) is)
+due_nine (Err Words) is = absurd (omega (arith, is))
+due_nine (Err (Read name)) is = absurd (omega (arith, is))
+due_nine (Err (Long name)) is = absurd (omega (arith, is))
+due_nine (Err (Asm line cause)) is = (line, cause, refl)
+due_nine (Err (Description fault)) is = absurd (omega (arith, is))
+due_nine (Err (BadImage guest fault)) is = absurd (omega (arith, is))
+due_nine (Err (Unbuilt key)) is = absurd (omega (arith, is))
+due_nine (Err (CacheAdmission cell needs has)) is = absurd (omega (arith, is))
+due_nine (Err (Admission guest needs has)) is = absurd (omega (arith, is))
+
 due_ten : (r : Result Job Fault) → due_status r ≡ 10 → (bytes : List ℕ) × (r ≡ Ok (Litmus bytes)) × (fault : LitmusFault) × (litmus_of bytes ≡ Err fault)
 due_ten (Ok (Monitored m starts sums)) is = absurd (omega (arith, is))
 due_ten (Ok (Alone m starts)) is = absurd (omega (arith, is))
+due_ten (Ok (Listing assembly)) is = absurd (omega (arith, is))
 due_ten (Ok (Litmus bytes)) is = (let found = litmus_ten (litmus_of bytes) is in (bytes, refl, found.0, found.1))
 due_ten (Err Words) is = absurd (omega (arith, is))
 due_ten (Err (Read name)) is = absurd (omega (arith, is))
 due_ten (Err (Long name)) is = absurd (omega (arith, is))
+due_ten (Err (Asm line cause)) is = absurd (omega (arith, is))
 due_ten (Err (Description fault)) is = absurd (omega (arith, is))
 due_ten (Err (BadImage guest fault)) is = absurd (omega (arith, is))
 due_ten (Err (Unbuilt key)) is = absurd (omega (arith, is))
@@ -124,6 +150,7 @@ stops (Ok job) = inl tt
 stops (Err Words) = inl tt
 stops (Err (Read name)) = inr (name, refl)
 stops (Err (Long name)) = inl tt
+stops (Err (Asm line cause)) = inl tt
 stops (Err (Description fault)) = inl tt
 stops (Err (BadImage guest fault)) = inl tt
 stops (Err (Unbuilt key)) = inl tt
@@ -212,6 +239,16 @@ module _ (w : List (List ℕ)) (a b : ShelfView) (c d : SinkView) (out : RunReco
           record { files = answers.files; given = answers.given; name = found.0; asked = found.1; failed = read_failed found.0 other found.1 }
       by (inr (inl one)) = absurd (other one)
       by (inr (inr failed)) = absurd (let four = failed.0 in omega (arith, four, three))
+
+  pub only_asm_status : ((files : Files) (line : ℕ) (cause : AsmCause) → job_of w files ≡ Err (Asm line cause) → RefusesLine w files line cause) → status ≡ 9 → RefusedText w a b
+  only_asm_status lines nine = by comes
+    where
+      by : OrFails (due_status (job_of w answers.files)) c d status → RefusedText w a b
+      by (inl due) =
+          let found = due_nine (job_of w answers.files) (sym due ∙ nine) in
+          record { files = answers.files; given = answers.given; line = found.0; cause = found.1; refused = lines answers.files found.0 found.1 found.2 }
+      by (inr (inl one)) = absurd (omega (arith, one, nine))
+      by (inr (inr failed)) = absurd (let four = failed.0 in omega (arith, four, nine))
 
   pub only_litmus_status : status ≡ 10 → RefusedLitmus w a b
   only_litmus_status ten = by comes

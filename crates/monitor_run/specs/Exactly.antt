@@ -4,11 +4,13 @@ use Rattle.base_words.specs.Counts.{Rose}
 use Rattle.outside_io.specs.Reading.{ShelfView, Holds}
 use Rattle.outside_io.specs.Writing.{SinkView}
 use Rattle.admission.specs.declared.faults.Fault.{Fault}
+use Rattle.guest_asm.specs.declared.fault.AsmCause.{AsmCause}
 use Rattle.admission.specs.declared.faults.Fault.TheVariants.{Read}
 use Rattle.admission.specs.Chain.{Files}
-use Rattle.admission.specs.Jobs.{Job, Monitored, Alone, Litmus, job_of}
+use Rattle.admission.specs.Jobs.{Job, Monitored, Alone, Litmus, Listing, job_of}
 use Rattle.admission.specs.Ready.{AreGiven}
 use Rattle.admission.specs.Stages.{FailedAt}
+use Rattle.admission.specs.Texts.{RefusesLine}
 use Rattle.page_slots.specs.declared.op.Litmus.{Litmus as Accesses}
 use Rattle.litmus_file.specs.declared.fault.LitmusFault.{LitmusFault}
 use Rattle.litmus_file.specs.Reads.{Read as LitmusRead}
@@ -28,6 +30,7 @@ litmus_status (Err fault) = 10
 abbrev pub due_status : Result Job Fault → ℕ
 due_status (Ok (Monitored d starts sums)) = 0
 due_status (Ok (Alone d starts)) = 0
+due_status (Ok (Listing assembly)) = 0
 due_status (Ok (Litmus bytes)) = litmus_status (litmus_of bytes)
 due_status (Err fault) = status_of fault
 
@@ -51,6 +54,14 @@ pub record RefusedLitmus (words : List (List ℕ)) (old new : ShelfView) : Type 
   pub asked : job_of words files ≡ Ok (Litmus bytes)
   pub fault : LitmusFault
   pub refused : litmus_of bytes ≡ Err fault
+
+-- the words named a text that the shelf gave, and a line of it is refused
+pub record RefusedText (words : List (List ℕ)) (old new : ShelfView) : Type 0 where
+  pub files : Files
+  pub given : AreGiven old new files
+  pub line : ℕ
+  pub cause : AsmCause
+  pub refused : RefusesLine words files line cause
 
 -- the status that is due, or want of memory, or a fault that the shelf or the sink counted
 abbrev pub IsExactly : ℕ → ShelfView → ShelfView → SinkView → SinkView → ℕ → Type 0

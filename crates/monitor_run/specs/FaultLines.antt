@@ -3,12 +3,14 @@ use Rattle.std.specs.Prelude.{ℕ, List, ◌++◌, codes, decimal}
 use Rattle.std.specs.Fmt.{signed_decimal}
 use Rattle.elf_image.specs.declared.fault.ImageFault.{ImageFault}
 use Rattle.elf_image.specs.declared.fault.ImageFault.TheVariants as image
+use Rattle.guest_asm.specs.declared.fault.AsmCause.{AsmCause}
+use Rattle.guest_asm.specs.declared.fault.AsmCause.TheVariants as cause
 use Rattle.machine_desc.specs.declared.fault.Amount.{Amount}
 use Rattle.machine_desc.specs.declared.fault.Amount.TheVariants.{Number, Length}
 use Rattle.machine_desc.specs.declared.fault.DescFault.{DescFault}
 use Rattle.machine_desc.specs.declared.fault.DescFault.TheVariants as description
 use Rattle.admission.specs.declared.faults.Fault.{Fault}
-use Rattle.admission.specs.declared.faults.Fault.TheVariants.{Words, Read, Long, Description, BadImage, Unbuilt, CacheAdmission, Admission}
+use Rattle.admission.specs.declared.faults.Fault.TheVariants.{Words, Read, Long, Asm, Description, BadImage, Unbuilt, CacheAdmission, Admission}
 use Rattle.unbuilt_keys.specs.declared.key.UnbuiltKey.{UnbuiltKey}
 use Rattle.unbuilt_keys.specs.declared.key.UnbuiltKey.TheVariants as key
 use Rattle.run_report.specs.Report.{line_end}
@@ -45,17 +47,29 @@ image_text (image.Overlap n m) = codes "overlap " ++ (decimal n ++ (codes " " ++
 image_text image.Entry = codes "entry"
 image_text image.Memory = codes "memory"
 
+-- why a line of a text is refused
+abbrev pub cause_text : AsmCause → List ℕ
+cause_text cause.Syntax = codes "syntax"
+cause_text cause.Mnemonic = codes "mnemonic"
+cause_text cause.Operands = codes "operands"
+cause_text cause.Twice = codes "twice"
+cause_text cause.Label = codes "label"
+cause_text cause.Range = codes "range"
+cause_text cause.Place = codes "place"
+
 -- the path of a key that isn't built
 abbrev pub key_text : UnbuiltKey → List ℕ
 key_text key.Cache = codes "machine.cache"
 key_text key.Migrate = codes "policy.migrate"
 key_text key.Replicate = codes "policy.replicate"
+key_text (key.Kind item) = codes "work[" ++ (decimal item ++ codes "].kind")
 key_text (key.Act item) = codes "work[" ++ (decimal item ++ codes "].act")
 
 abbrev pub fault_line : Fault → List ℕ
 fault_line Words = codes "fault words" ++ line_end
 fault_line (Read name) = codes "fault read " ++ (name ++ line_end)
 fault_line (Long name) = codes "fault long " ++ (name ++ line_end)
+fault_line (Asm line cause) = codes "fault asm " ++ (decimal line ++ (codes " " ++ (cause_text cause ++ line_end)))
 fault_line (Description fault) = codes "fault description " ++ (description_text fault ++ line_end)
 fault_line (BadImage guest fault) = codes "fault image " ++ (decimal guest.0 ++ (codes " " ++ (image_text fault ++ line_end)))
 fault_line (Unbuilt key) = codes "fault description unbuilt " ++ (key_text key ++ line_end)
@@ -74,3 +88,4 @@ status_of (BadImage guest fault) = 6
 status_of (CacheAdmission cell needs has) = 7
 status_of (Admission guest needs has) = 7
 status_of (Long name) = 8
+status_of (Asm line cause) = 9

@@ -5,3 +5,4 @@ pub mod Monitored
 pub mod Ends
 pub mod Headline
 pub mod Exactly
+pub mod TextRuns

@@ -1,5 +1,5 @@
 -- Guests under the monitor: what their record says.
-use Rattle.std.specs.Prelude.{◌≡◌, ℕ, suc, List, [], ◌∷◌, length, map}
+use Rattle.std.specs.Prelude.{◌≡◌, ℕ, suc, List, [], ◌∷◌, map}
 use Rattle.base_words.specs.declared.input.InputEntry.{InputEntry}
 use Rattle.private_machine.specs.PrivateMachine.{PrivateMachine}
 use Rattle.private_machine.specs.PrivateRun.{private_run}

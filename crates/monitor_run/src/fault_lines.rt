@@ -2,12 +2,13 @@
 ghost use Rattle.std.specs.Prelude.{◌≡◌, string_bytes, IfOk};
 ghost use Rattle.outside_io.specs.Writing.{Writes};
 ghost use Rattle.machine_desc.specs.declared.fault.DescFault.TheVariants.{Range};
-ghost use Rattle.admission.specs.declared.faults.Fault.TheVariants.{Description, BadImage, Unbuilt};
-ghost use Rattle.monitor_run.specs.FaultLines.{amount_text as amount_text_of, description_text as description_text_of, image_text as image_text_of, key_text as key_text_of, fault_line as fault_line_of};
+ghost use Rattle.admission.specs.declared.faults.Fault.TheVariants.{Asm, Description, BadImage, Unbuilt};
+ghost use Rattle.monitor_run.specs.FaultLines.{amount_text as amount_text_of, description_text as description_text_of, image_text as image_text_of, cause_text as cause_text_of, key_text as key_text_of, fault_line as fault_line_of};
 
 use admission::Fault;
 use base_words::{GuestId, Name};
 use elf_image::ImageFault;
+use guest_asm::AsmCause;
 use machine_desc::{Amount, DescFault};
 use outside_io::{Sink, SinkFault};
 use std::alloc::{AllocError, Global};
@@ -87,6 +88,21 @@ fn image_text(alloc: Global, fault: ImageFault) -> Result<String, AllocError>
     }
 }
 
+/// Why a line of a text is refused.
+fn cause_text<'a>(cause: AsmCause) -> &'a str
+    ensures { result.now ≡ cause_text_of cause }
+{
+    match cause {
+        AsmCause::Syntax => "syntax",
+        AsmCause::Mnemonic => "mnemonic",
+        AsmCause::Operands => "operands",
+        AsmCause::Twice => "twice",
+        AsmCause::Label => "label",
+        AsmCause::Range => "range",
+        AsmCause::Place => "place",
+    }
+}
+
 /// The path of a key that isn't built.
 fn key_text(alloc: Global, key: UnbuiltKey) -> Result<String, AllocError>
     ensures { IfOk result (λ text. string_bytes text ≡ key_text_of key) }
@@ -95,8 +111,17 @@ fn key_text(alloc: Global, key: UnbuiltKey) -> Result<String, AllocError>
         UnbuiltKey::Cache => String::from_str(alloc, "machine.cache"),
         UnbuiltKey::Migrate => String::from_str(alloc, "policy.migrate"),
         UnbuiltKey::Replicate => String::from_str(alloc, "policy.replicate"),
+        UnbuiltKey::Kind(item) => format!(in alloc; "work[{item}].kind"),
         UnbuiltKey::Act(item) => format!(in alloc; "work[{item}].act"),
     }
+}
+
+/// The line of a text of which a line is refused.
+fn asm_line(alloc: Global, line: u32, cause: AsmCause) -> Result<String, AllocError>
+    ensures { IfOk result (λ text. string_bytes text ≡ fault_line_of (Asm line cause)) }
+{
+    let cause = cause_text(cause);
+    format!(in alloc; "fault asm {line} {cause}\n")
 }
 
 /// The line of a description that is refused.
@@ -141,6 +166,7 @@ fn fault_line(alloc: Global, fault: &Fault) -> Result<String, AllocError>
             let name = name.as_str();
             format!(in alloc; "fault long {name}\n")
         }
+        Fault::Asm { line, cause } => asm_line(alloc, *line, *cause),
         Fault::Description(fault) => description_line(alloc, fault),
         Fault::BadImage(guest, fault) => image_line(alloc, *guest, *fault),
         Fault::Unbuilt(key) => unbuilt_line(alloc, *key),
@@ -155,13 +181,20 @@ fn fault_line(alloc: Global, fault: &Fault) -> Result<String, AllocError>
     }
 }
 
+/// Puts a text, and settles it.
+pub fn put_whole<K: Sink>(sink: &mut K, text: &[u8]) -> Result<(), SinkFault>
+    ensures { Writes (K.view sink.old) (K.view sink.new) text.now result }
+{
+    match sink.put(text) {
+        Ok(()) => sink.finish(),
+        Err(fault) => Err(fault),
+    }
+}
+
 /// Puts the line of a refusal, and settles it.
 pub fn render_fault<K: Sink>(alloc: Global, sink: &mut K, fault: &Fault) -> Result<(), SinkFault>
     ensures { Writes (K.view sink.old) (K.view sink.new) (fault_line_of fault.now) result }
 {
     let line = fault_line(alloc, fault)?;
-    match sink.put(line.as_bytes()) {
-        Ok(()) => sink.finish(),
-        Err(fault) => Err(fault),
-    }
+    put_whole(sink, line.as_bytes())
 }

@@ -1,5 +1,5 @@
 //! What the top call's contract says of each status.
-ghost use Rattle.std.specs.Prelude.{◌≡◌, ◌⊎◌, ◌++◌, ℕ, List, None, Err, codes};
+ghost use Rattle.std.specs.Prelude.{◌≡◌, ◌⊎◌, ◌++◌, ℕ, List, Some, None, Err, codes};
 ghost use Rattle.base_words.specs.Counts.{Rose};
 ghost use Rattle.outside_io.specs.Reading.{ShelfView, Absent};
 ghost use Rattle.outside_io.specs.Writing.{SinkView};
@@ -8,16 +8,19 @@ ghost use Rattle.admission.specs.declared.faults.Fault.TheVariants.{Read, CacheA
 ghost use Rattle.admission.specs.Chain.{Files};
 ghost use Rattle.admission.specs.Jobs.{job_of};
 ghost use Rattle.admission.specs.Steady.{NeverReads};
-ghost use Rattle.admission.specs.Words.{form_of};
-ghost use Rattle.monitor_run.specs.Exactly.{AreTold, Failed, FailedFile, IsExactly, RefusedLitmus, due_status};
+ghost use Rattle.admission.specs.Words.{AsmSteps, form_of};
+ghost use Rattle.monitor_run.specs.Exactly.{AreTold, Failed, FailedFile, IsExactly, RefusedLitmus, RefusedText, due_status};
 ghost use Rattle.monitor_run.specs.FaultLines.{fault_line};
 ghost use Rattle.monitor_run.specs.Headline.{Answers};
+ghost use Rattle.monitor_run.specs.TextRuns.{RunsText};
 ghost use Rattle.run_report.specs.Report.{line_end};
 
 use admission::{steady, told};
+use guest_asm::images_are_loaded;
 
 /// The words alone give status 2. Files that the shelf tells give the status that is due by them, unless memory is wanting, a read
-/// fails or the output does; and a file that it tells isn't there gives status 3. Status 10 is a litmus file's alone.
+/// fails or the output does; and a file that it tells isn't there gives status 3. Status 9 is a text's alone,
+/// and status 10 a litmus file's.
 pub fn exactly()
     ensures words { (w : List (List ℕ)) (a b : ShelfView) (c d : SinkView) (out : RunRecord) (status : ℕ)
         → Answers w a b c d out status → form_of w ≡ None → (status ≡ 2) ⊎ (status ≡ 1) }
@@ -33,11 +36,22 @@ pub fn exactly()
         → Answers w a b c d out status → status ≡ 3 → FailedFile w a b }
     ensures only_write { (w : List (List ℕ)) (a b : ShelfView) (c d : SinkView) (out : RunRecord) (status : ℕ)
         → Answers w a b c d out status → status ≡ 4 → Rose c.faults d.faults }
+    ensures only_asm { (w : List (List ℕ)) (a b : ShelfView) (c d : SinkView) (out : RunRecord) (status : ℕ)
+        → Answers w a b c d out status → status ≡ 9 → RefusedText w a b }
     ensures only_litmus { (w : List (List ℕ)) (a b : ShelfView) (c d : SinkView) (out : RunRecord) (status : ℕ)
         → Answers w a b c d out status → status ≡ 10 → RefusedLitmus w a b }
 {
     steady();
     told();
+}
+
+/// What `--asm FILE --steps N` ran at status 0 is the file's text: no line of it is refused, the guest began with each word at its address
+/// and zeros elsewhere, at the entry, and all that the claim says of a run holds of this one.
+pub fn text_runs()
+    ensures { (w : List (List ℕ)) (a b : ShelfView) (c d : SinkView) (out : RunRecord) (status : ℕ) (name : List ℕ) (steps : ℕ)
+        → Answers w a b c d out status → form_of w ≡ Some (AsmSteps name steps) → status ≡ 0 → RunsText name steps a b out }
+{
+    images_are_loaded();
 }
 
 /// The line of a cell that is short, by example; no description leads to it as long as caches aren't built.

@@ -10,6 +10,7 @@ mod top;
 
 pub use admission::{Fault, Job, Refusal};
 pub use elf_image::ImageFault;
-pub use law::{exactly, examples};
+pub use guest_asm::AsmCause;
+pub use law::{exactly, examples, text_runs};
 pub use top::disco;
 pub use unbuilt_keys::UnbuiltKey;

@@ -1,7 +1,10 @@
 //! The top call.
 ghost use Rattle.std.specs.Prelude.{◌≡◌, None, Ok};
 ghost use Rattle.machine_desc.specs.Described.{described_seen};
-ghost use Rattle.admission.specs.Jobs.{Monitored, Alone, Litmus};
+ghost use Rattle.guest_asm.specs.Assembly.{assembly_seen};
+ghost use Rattle.guest_asm.specs.Listing.{listing_of as listing_text};
+ghost use Rattle.outside_io.specs.Writing.{Writes};
+ghost use Rattle.admission.specs.Jobs.{Monitored, Alone, Litmus, Listing};
 ghost use Rattle.admission.specs.Ready.{IsReady, IsSetup};
 ghost use Rattle.unbuilt_keys.specs.Unbuilt.{unbuilt};
 ghost use Rattle.admission.specs.Views.{job_seen, starts_of};
@@ -10,11 +13,12 @@ ghost use Rattle.monitor_run.specs.Ends.{Ends, Tells, nothing, status_put};
 ghost use Rattle.monitor_run.specs.FaultLines.{status_of as status_of_fault};
 ghost use Rattle.monitor_run.specs.Headline.{Answers};
 
-use crate::fault_lines::render_fault;
+use crate::fault_lines::{put_whole, render_fault};
 use crate::monitored::run_monitored;
 use crate::private_run::run_alone;
 use admission::{Fault, Job, Refusal, Setup, admit};
 use base_words::Bytes;
+use guest_asm::{Assembled, listing_of};
 use guest_core::RunRecord;
 use litmus_run::litmus;
 use outside_io::{Gate, Shelf, Sink, SinkFault, nothing_put_is_starved};
@@ -41,6 +45,7 @@ fn status_of(fault: &Fault) -> u8
         Fault::BadImage(_, _) => 6,
         Fault::CacheAdmission { .. } | Fault::Admission { .. } => 7,
         Fault::Long(_) => 8,
+        Fault::Asm { .. } => 9,
     }
 }
 
@@ -111,6 +116,25 @@ fn carry_out_litmus<R: Threads + Wait + Sync, K: Sink, G: Gate>(
     litmus(rt, alloc, bytes.as_slice(), sink, gate)
 }
 
+/// Puts the listing of what was assembled, and settles it.
+fn render_listing<K: Sink>(
+    alloc: Global,
+    assembled: &Assembled,
+    sink: &mut K,
+) -> Result<(), SinkFault>
+    ensures { Writes (K.view sink.old) (K.view sink.new) (listing_text (assembly_seen assembled.now)) result }
+{
+    let text = listing_of(alloc, assembled)?;
+    put_whole(sink, text.as_slice())
+}
+
+/// Prints the listing of what was assembled. No record is kept.
+fn carry_out_listing<K: Sink>(alloc: Global, assembled: &Assembled, sink: &mut K) -> u8
+    ensures { Ends (Ok (Listing (assembly_seen assembled.now))) (K.view sink.old) (K.view sink.new) nothing result }
+{
+    status_of_report(render_listing(alloc, assembled, sink))
+}
+
 /// Carries a job out.
 fn carry_out_job<R: Threads + Wait + Sync, K: Sink, G: Gate>(
     rt: &R,
@@ -128,6 +152,7 @@ fn carry_out_job<R: Threads + Wait + Sync, K: Sink, G: Gate>(
         Job::Monitored { setup, sums } => carry_out(rt, alloc, setup, sums, sink, gate, out),
         Job::Alone(setup) => carry_out_alone(alloc, &setup, sink),
         Job::Litmus(bytes) => carry_out_litmus(rt, alloc, &bytes, sink, gate),
+        Job::Listing(assembled) => carry_out_listing(alloc, &assembled, sink),
     }
 }
 

@@ -1,5 +1,5 @@
 //! The counters of all pages of a guest.
-ghost use Rattle.std.specs.Prelude.{◌≡◌, ℕ, ◌<◌, true, length, slice_set, replicate, IfOk};
+ghost use Rattle.std.specs.Prelude.{◌≡◌, ◌↔◌, ℕ, ◌<◌, true, IsTrue, length, slice_set, replicate, IfOk};
 ghost use Rattle.private_machine.specs.Policy.{no_misses, missed, noted, anew, choice};
 ghost use Rattle.page_policy.specs.Pages.{misses_of, AreCounters};
 ghost use Rattle.page_policy.specs.Choices.{kind_of, IsTo};
@@ -43,6 +43,13 @@ impl Counters {
             written,
             misses,
         })
+    }
+
+    /// Whether a page is one of those that are counted.
+    pub fn has(&self, page: Ppn) -> bool
+        ensures { IsTrue result ↔ (page.0 < length self.now) }
+    {
+        (page.0 as usize) < self.written.len()
     }
 
     /// An access of a page by a node: whether it was a miss, and whether it was a store.

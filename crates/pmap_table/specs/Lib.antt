@@ -3,5 +3,8 @@ pub mod OpenMoves
 pub mod Replicas
 pub mod BackedPages
 pub mod PageMap
+pub mod Ending
 pub mod GivingUp
 pub mod NearFrame
+pub mod PageSets
+pub mod Tracking

@@ -30,8 +30,11 @@ impl Model for BackedPage {
     ghost Value = { Page };
 
     ghost use Rattle.pmap_table.specs.BackedPages.{page_of};
+    ghost use Rattle.pmap_table.specs.OpenMoves.{FitsMove};
 
     ghost view = { page_of };
+
+    ghost invariant = { λ g. FitsMove (page_of g) (page_of g).move };
 }
 
 impl BackedPage {

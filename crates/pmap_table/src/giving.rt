@@ -6,7 +6,7 @@ ghost use Rattle.pmap_table.specs.GivingUp.{held, times, LosesLast, Loses};
 
 use crate::Pmap;
 use crate::backed::BackedPage;
-use base_words::FrameNo;
+use base_words::{FrameNo, Ppn};
 
 impl BackedPage {
     /// Ends the open move, and drops its target.
@@ -56,6 +56,7 @@ impl Pmap {
         ensures last { IfSome result (λ (f : FrameNo). LosesLast f.0 (held self.old) (held self.new)) }
         ensures counted { IfSome result (λ (f : FrameNo). (k : ℕ)
             → times k (held self.old) ≡ times k (held self.new) + (if f.0 == k then 1 else 0)) }
+        ensures room { self.new.room ≡ self.old.room }
     {
         match self.spares.pop() {
             Some(spare) => Some(spare.number),
@@ -69,10 +70,12 @@ impl Pmap {
         ensures none { IfNone result (self.old.pages ≡ []) }
         ensures frame { Loses result (held self.old) (held self.new) }
         ensures same { IfNone result (self.new ≡ self.old) }
+        ensures room { self.new.room ≡ self.old.room }
     {
         let last = self.pages.len().checked_sub(1)?;
         let page = &mut self.pages[last];
         self.moving -= u32::from(page.pending.is_some());
+        self.open.track(Ppn(last as u32), &None);
         if let Some(number) = page.give_up() {
             return Some(number);
         }

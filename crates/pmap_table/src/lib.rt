@@ -3,20 +3,21 @@
 #![tactic(auto)]
 
 mod backed;
+mod beginning;
 mod bytes;
+mod ending;
+mod freed;
 mod giving;
 mod mapping;
 mod master;
 mod open_move;
+mod open_pages;
+mod page_set;
 mod pmap;
 mod replicas;
 mod threads;
 
-pub use open_move::OpenMove;
+pub use freed::Freed;
+pub use open_move::{Change, OpenMove};
 pub use pmap::Pmap;
 pub use threads::cross_threads;
-
-#[cfg(test)]
-mod by_hand;
-#[cfg(test)]
-mod tests;

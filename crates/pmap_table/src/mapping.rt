@@ -25,7 +25,11 @@ impl Pmap {
         requires processor { processor.0 < most_processors }
         ensures { self.new ≡ with_page self.old page.0 (left_by processor.0 (page_at self.old.pages page.0)) }
     {
-        self.pages[page.0 as usize].unmap(processor);
+        let backed = &mut self.pages[page.0 as usize];
+        backed.unmap(processor);
+        if backed.pending.is_some() {
+            self.open.track(page, &backed.pending);
+        }
     }
 
     /// A processor's TLB no longer names any page, by which the processor has acknowledged all open moves.
@@ -33,8 +37,8 @@ impl Pmap {
         requires { processor.0 < most_processors }
         ensures { self.new ≡ record self.old { pages = map (left_by processor.0) self.old.pages } }
     {
-        for backed in self.pages.iter_mut() {
-            backed.unmap(processor);
+        for page in 0..self.len() {
+            self.unmap(Ppn(page), processor);
         }
     }
 }

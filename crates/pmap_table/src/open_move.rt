@@ -3,13 +3,15 @@ ghost use Rattle.std.specs.Prelude.{◌≡◌, option_map};
 ghost use Rattle.base_words.specs.declared.ids.FrameNo.{FrameNo};
 ghost use Rattle.private_machine.specs.Backing.{Copy};
 ghost use Rattle.private_machine.specs.PageMove.{kind_of, target_of};
-ghost use Rattle.pmap_table.specs.OpenMoves.{change_of, move_of, told};
+ghost use Rattle.pmap_table.specs.declared.open_move.Change.TheVariants.{TakeShared};
+ghost use Rattle.pmap_table.specs.OpenMoves.{change_of, move_of, told, TakesPage};
+ghost use Rattle.pmap_table.specs.Tracking.{is_taking};
 
 use base_words::{Frame, FrameNo, MoveKind, ProcSet, SharedFrame};
 
 /// What a move does, with its target where it has one.
 #[derive(Drop)]
-pub(crate) enum Change {
+pub enum Change {
     Migrate(Frame),
     Replicate(Frame),
     Collapse,
@@ -59,6 +61,30 @@ impl Change {
             Change::TakeShared(frame) => Some(frame.number),
             Change::Collapse => None,
         }
+    }
+}
+
+impl Change {
+    /// The frame that is taken shared.
+    pub(crate) fn into_shared(self) -> SharedFrame
+        requires { TakesPage self }
+        ensures { self ≡ TakeShared result }
+    {
+        match self {
+            Change::TakeShared(frame) => frame,
+            Change::Migrate(_)
+            | Change::Replicate(_)
+            | Change::Collapse
+            | Change::Break(_)
+            | Change::GiveShared(_) => unreachable!(),
+        }
+    }
+
+    /// Whether its own operation ends the move.
+    pub(crate) fn is_taking(&self) -> bool
+        ensures { result ≡ is_taking (change_of self.now) }
+    {
+        matches!(self, Change::TakeShared(_))
     }
 }
 

@@ -1,15 +1,17 @@
 //! The table of a guest's pages.
-ghost use Rattle.std.specs.Prelude.{◌≡◌, ℕ, Bool, true, false, ◌<◌, ◌≤◌, ◌^◌, ◌↔◌, [], IsTrue, IfOk, OnOk, OnErr, length, map, option_map};
+ghost use Rattle.std.specs.Prelude.{◌≡◌, ℕ, Bool, true, false, ◌<◌, ◌≤◌, ◌↔◌, [], IsTrue, IfOk, IfSome, IfNone, OnOk, OnErr, length, map, count_by, option_map};
 ghost use Rattle.base_words.specs.Limits.{most_processors};
+ghost use Rattle.base_words.specs.declared.ids.Ppn.{Ppn};
 ghost use Rattle.base_words.specs.Membership.{Has, IsMember};
 ghost use Rattle.private_machine.specs.Backing.{Copy, page_at, copies, has_frame, nearest as nearest_of};
-ghost use Rattle.private_machine.specs.PageMove.{named_by, left_by};
 ghost use Rattle.pmap_table.specs.OpenMoves.{told};
 ghost use Rattle.pmap_table.specs.BackedPages.{own_page};
-ghost use Rattle.pmap_table.specs.PageMap.{with_page};
+ghost use Rattle.pmap_table.specs.PageMap.{is_moving};
+ghost use Rattle.pmap_table.specs.Tracking.{waits_for, is_ready, IsLowest, HoldsNowhere};
 
 use crate::OpenMove;
 use crate::backed::BackedPage;
+use crate::open_pages::OpenPages;
 use base_words::{Frame, FrameList, FrameNo, NodeId, Ppn, ProcId, ProcSet, Shape};
 use std::alloc::{AllocError, Global};
 use std::marker::Model;
@@ -23,8 +25,8 @@ pub struct Pmap {
     pub(crate) moving: u32,
     /// How many more spares can come with no memory, beside one from each open move.
     pub(crate) room: u32,
-    // Here is the place for two kinds of sets: for each processor, the pages whose moves it hasn't acknowledged, and the pages whose
-    // moves are acknowledged by all, so that the lowest of each is found without a search.
+    /// Which pages wait for which processor, and whose moves are ready to be finished.
+    pub(crate) open: OpenPages,
 }
 
 impl Model for Pmap {
@@ -42,7 +44,7 @@ impl Model for Pmap {
 impl Pmap {
     /// A page for each of these frames, in order, and no spares.
     pub fn boot(alloc: Global, frames: FrameList) -> Result<Pmap, AllocError>
-        requires { length frames < 2 ^ 32 }
+        requires { length frames ≤ 2048 }
         ensures pages { IfOk result (λ pmap. pmap.pages ≡ map own_page frames) }
         ensures spares { IfOk result (λ pmap. pmap.spares ≡ []) }
     {
@@ -51,6 +53,7 @@ impl Pmap {
             spares: Vec::new(alloc),
             moving: 0,
             room: 0,
+            open: OpenPages::none(alloc)?,
         })
     }
 
@@ -183,6 +186,40 @@ impl Pmap {
         ensures { result ≡ option_map told (page_at self.now.pages page.0).move }
     {
         self.at(page).open_move()
+    }
+}
+
+impl Pmap {
+    /// Whether any page has an open move.
+    #[inline]
+    pub fn is_moving(&self) -> bool
+        ensures none { result ≡ false → HoldsNowhere is_moving self.now.pages }
+    {
+        self.moving != 0
+    }
+
+    /// How many pages have an open move.
+    pub fn open_moves(&self) -> usize
+        ensures { result ≡ count_by is_moving self.now.pages }
+    {
+        self.moving as usize
+    }
+
+    /// The lowest page that waits for a processor to acknowledge its move.
+    pub fn first_waiting(&self, processor: ProcId) -> Option<Ppn>
+        requires { processor.0 < most_processors }
+        ensures some { IfSome result (λ (q : Ppn). IsLowest (waits_for processor.0) self.now.pages q.0) }
+        ensures none { IfNone result (HoldsNowhere (waits_for processor.0) self.now.pages) }
+    {
+        self.open.first_waiting(processor)
+    }
+
+    /// The lowest page whose move all have acknowledged and no operation ends.
+    pub fn first_ready(&self) -> Option<Ppn>
+        ensures some { IfSome result (λ (q : Ppn). IsLowest is_ready self.now.pages q.0) }
+        ensures none { IfNone result (HoldsNowhere is_ready self.now.pages) }
+    {
+        self.open.first_ready()
     }
 }
 

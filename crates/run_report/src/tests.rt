@@ -35,6 +35,7 @@ fn guest(alloc: Global) -> Result<GuestRecord, AllocError> {
         received: Sequence::new(alloc),
         discarded: Sequence::new(alloc),
         in_hand: None,
+        skips: Sequence::new(alloc),
         end: End::Halted,
     })
 }

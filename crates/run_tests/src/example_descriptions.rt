@@ -14,8 +14,7 @@ nodes = [1]
 lend = 2
 
 [[guest]]
-image = \"examples/loans/guest.raw\"
-form = \"raw\"
+image = \"examples/loans/guest.elf\"
 pages = 6
 vcpus = 1
 node = 0
@@ -35,8 +34,7 @@ frames = 1
 processors = [0]
 
 [[guest]]
-image = \"examples/hello/guest.raw\"
-form = \"raw\"
+image = \"examples/hello/guest.elf\"
 pages = 1
 vcpus = 1
 node = 0
@@ -57,8 +55,7 @@ frames = 1
 processors = [0]
 
 [[guest]]
-image = \"examples/timer/guest.raw\"
-form = \"raw\"
+image = \"examples/timer/guest.elf\"
 pages = 1
 vcpus = 1
 node = 0
@@ -78,8 +75,7 @@ frames = 8
 processors = [0]
 
 [[guest]]
-image = \"examples/kernel/guest.raw\"
-form = \"raw\"
+image = \"examples/kernel/guest.elf\"
 pages = 7
 vcpus = 1
 node = 0
@@ -100,8 +96,7 @@ frames = 4
 processors = [0]
 
 [[guest]]
-image = \"examples/disk/guest.raw\"
-form = \"raw\"
+image = \"examples/disk/guest.elf\"
 pages = 4
 vcpus = 1
 node = 0
@@ -123,8 +118,7 @@ frames = 1
 processors = [0]
 
 [[guest]]
-image = \"examples/input/guest.raw\"
-form = \"raw\"
+image = \"examples/input/guest.elf\"
 pages = 1
 vcpus = 1
 node = 0
@@ -159,15 +153,13 @@ frames = 4
 processors = [0, 0]
 
 [[guest]]
-image = \"examples/two_guests/guest0.raw\"
-form = \"raw\"
+image = \"examples/two_guests/guest0.elf\"
 pages = 1
 vcpus = 1
 node = 0
 
 [[guest]]
-image = \"examples/two_guests/guest1.raw\"
-form = \"raw\"
+image = \"examples/two_guests/guest1.elf\"
 pages = 2
 vcpus = 1
 node = 0
@@ -195,15 +187,13 @@ frames = 4
 processors = [0]
 
 [[guest]]
-image = \"examples/packets/guest0.raw\"
-form = \"raw\"
+image = \"examples/packets/guest0.elf\"
 pages = 2
 vcpus = 1
 node = 0
 
 [[guest]]
-image = \"examples/packets/guest1.raw\"
-form = \"raw\"
+image = \"examples/packets/guest1.elf\"
 pages = 2
 vcpus = 1
 node = 0
@@ -235,4 +225,73 @@ processor = 0
 guest = 0
 vcpu = 0
 steps = 100
+";
+
+pub(crate) const MIGRATE_DESCRIPTION: &str =
+    "# A guest of two pages, of which page 1 is moved to the other node and back while the guest counts on it.
+[machine]
+nodes = 2
+frames = 4
+processors = [0]
+
+[[guest]]
+image = \"examples/migrate/guest.elf\"
+pages = 2
+vcpus = 1
+node = 0
+
+# it lies there: skipped
+[[work]]
+act = \"move\"
+processor = 0
+guest = 0
+page = 1
+kind = \"migrate\"
+node = 0
+
+[[work]]
+act = \"run\"
+processor = 0
+guest = 0
+vcpu = 0
+steps = 26
+
+[[work]]
+act = \"move\"
+processor = 0
+guest = 0
+page = 1
+kind = \"migrate\"
+node = 1
+
+[[work]]
+act = \"run\"
+processor = 0
+guest = 0
+vcpu = 0
+steps = 21
+
+[[work]]
+act = \"move\"
+processor = 0
+guest = 0
+page = 1
+kind = \"migrate\"
+node = 0
+
+[[work]]
+act = \"run\"
+processor = 0
+guest = 0
+vcpu = 0
+steps = 100
+
+# the guest has halted: skipped
+[[work]]
+act = \"move\"
+processor = 0
+guest = 0
+page = 1
+kind = \"migrate\"
+node = 1
 ";

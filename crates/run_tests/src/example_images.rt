@@ -12,6 +12,16 @@ pub(crate) const LOANS: &[Part<'static>] = &[(
     ],
 )];
 
+/// Counts on a page of its own.
+pub(crate) const MIGRATE: &[Part<'static>] = &[(
+    0,
+    &[
+        0x3C10CFFF, 0x3610F000, 0x3C08C000, 0x35081000, 0x24090009, 0x8D0A0000, 0x254A0001,
+        0xAD0A0000, 0x254B0030, 0xAE0B0000, 0x1549FFFA, 0x00000000, 0x240C000A, 0xAE0C0000,
+        0xAE000004,
+    ],
+)];
+
 /// Prints a text.
 pub(crate) const HELLO: &[Part<'static>] = &[
     (

@@ -1,10 +1,10 @@
 //! The programs of the folder `examples` at the top of the repository, each with its description and with the report that it has there.
 use crate::example_descriptions::{
     DISK_DESCRIPTION, HELLO_DESCRIPTION, INPUT_DESCRIPTION, KERNEL_DESCRIPTION, LOANS_DESCRIPTION,
-    PACKETS_DESCRIPTION, TIMER_DESCRIPTION, TWO_GUESTS_DESCRIPTION,
+    MIGRATE_DESCRIPTION, PACKETS_DESCRIPTION, TIMER_DESCRIPTION, TWO_GUESTS_DESCRIPTION,
 };
 use crate::example_images::{
-    ANSWERS, ASKS, DISK, DIVIDES, HELLO, INPUT, KERNEL, LETTERS, LOANS, Part, TIMER,
+    ANSWERS, ASKS, DISK, DIVIDES, HELLO, INPUT, KERNEL, LETTERS, LOANS, MIGRATE, Part, TIMER,
 };
 use crate::tests::{file_of_parts, words_of};
 use base_words::{Bytes, Name};
@@ -32,6 +32,24 @@ struct Example<'a> {
     alone: &'a str,
 }
 
+/// The headers of an image of one segment of so many bytes, which begins and lies at C0000000 (ELF specification).
+#[rattlefmt::skip]
+fn headers(count: u32) -> [u32; 21] {
+    [
+        0x7F454C46, 0x01020100, 0, 0, 0x00020008, 1, 0xC0000000, 52, 0, 0, 0x00340020, 0x00010000, 0,
+        1, 84, 0xC0000000, 0, count, count, 7, 4096,
+    ]
+}
+
+/// The image of an example's words, which are no more than 16 pages.
+fn image_of(alloc: Global, parts: &[Part]) -> Result<Vec<u8>, AllocError> {
+    let words = file_of_parts(alloc, parts)?;
+    let count = words.len().min(0x1_0000) as u32;
+    let mut image = file_of_parts(alloc, &[(0, &headers(count))])?;
+    image.extend_from_slice(&words)?;
+    Ok(image)
+}
+
 /// A file of the shelf.
 fn file(alloc: Global, name: &str, bytes: Vec<u8>) -> Result<HeldFile, AllocError> {
     Ok(HeldFile {
@@ -46,7 +64,7 @@ fn shelf_of(alloc: Global, example: &Example) -> Result<MemShelf, AllocError> {
     let description = example.description.as_bytes().to_vec(alloc)?;
     files.push(file(alloc, "machine.toml", description)?)?;
     for (name, parts) in example.images {
-        files.push(file(alloc, *name, file_of_parts(alloc, *parts)?)?)?;
+        files.push(file(alloc, *name, image_of(alloc, *parts)?)?)?;
     }
     files.push(file(alloc, "examples/disk/disk.img", example.disk.to_vec(alloc)?)?)?;
     Ok(MemShelf::new(alloc, files, CallList::from_vec(Vec::new(alloc))))
@@ -84,7 +102,7 @@ fn examples_print_what_they_should(rt: HostRuntime) -> Result<(), Fail> {
         Example {
             about: "hello",
             description: HELLO_DESCRIPTION,
-            images: &[("examples/hello/guest.raw", HELLO)],
+            images: &[("examples/hello/guest.elf", HELLO)],
             disk: &[],
             status: 0,
             monitored: "guest 0 console 12\nHello, world\nend halted\nsums steps 68 refills 1 moves 0 skips 0 breaks 0 shared 0 received 0 discarded 0\n",
@@ -93,7 +111,7 @@ fn examples_print_what_they_should(rt: HostRuntime) -> Result<(), Fail> {
         Example {
             about: "timer",
             description: TIMER_DESCRIPTION,
-            images: &[("examples/timer/guest.raw", TIMER)],
+            images: &[("examples/timer/guest.elf", TIMER)],
             disk: &[],
             status: 0,
             monitored: "guest 0 console 6\n12345.\nend halted\nsums steps 513 refills 1 moves 0 skips 0 breaks 0 shared 0 received 0 discarded 0\n",
@@ -102,7 +120,7 @@ fn examples_print_what_they_should(rt: HostRuntime) -> Result<(), Fail> {
         Example {
             about: "kernel",
             description: KERNEL_DESCRIPTION,
-            images: &[("examples/kernel/guest.raw", KERNEL)],
+            images: &[("examples/kernel/guest.elf", KERNEL)],
             disk: &[],
             status: 0,
             monitored: "guest 0 console 14\nabcd\nrefills 2\nend halted\nsums steps 220 refills 7 moves 0 skips 0 breaks 0 shared 0 received 0 discarded 0\n",
@@ -111,7 +129,7 @@ fn examples_print_what_they_should(rt: HostRuntime) -> Result<(), Fail> {
         Example {
             about: "disk",
             description: DISK_DESCRIPTION,
-            images: &[("examples/disk/guest.raw", DISK)],
+            images: &[("examples/disk/guest.elf", DISK)],
             disk: b"disco",
             status: 0,
             monitored: "guest 0 console 13\ndisco DISCO 1\nend halted\nsums steps 121 refills 3 moves 0 skips 0 breaks 0 shared 0 received 0 discarded 0\n",
@@ -120,7 +138,7 @@ fn examples_print_what_they_should(rt: HostRuntime) -> Result<(), Fail> {
         Example {
             about: "input",
             description: INPUT_DESCRIPTION,
-            images: &[("examples/input/guest.raw", INPUT)],
+            images: &[("examples/input/guest.elf", INPUT)],
             disk: &[],
             status: 0,
             monitored: "guest 0 console 18\ndisco never stops.\nend halted\nsums steps 184 refills 1 moves 0 skips 0 breaks 0 shared 0 received 0 discarded 0\n",
@@ -130,8 +148,8 @@ fn examples_print_what_they_should(rt: HostRuntime) -> Result<(), Fail> {
             about: "two_guests",
             description: TWO_GUESTS_DESCRIPTION,
             images: &[
-                ("examples/two_guests/guest0.raw", LETTERS),
-                ("examples/two_guests/guest1.raw", DIVIDES),
+                ("examples/two_guests/guest0.elf", LETTERS),
+                ("examples/two_guests/guest1.elf", DIVIDES),
             ],
             disk: &[],
             status: 0,
@@ -141,18 +159,27 @@ fn examples_print_what_they_should(rt: HostRuntime) -> Result<(), Fail> {
         Example {
             about: "loans",
             description: LOANS_DESCRIPTION,
-            images: &[("examples/loans/guest.raw", LOANS)],
+            images: &[("examples/loans/guest.elf", LOANS)],
             disk: &[],
             status: 0,
             monitored: "guest 0 console 6\nfedcba\nend halted\nsums steps 74 refills 6 moves 0 skips 0 breaks 0 shared 0 received 0 discarded 0\n",
             alone: "guest 0 console 6\nfedcba\nend halted\n",
         },
         Example {
+            about: "migrate",
+            description: MIGRATE_DESCRIPTION,
+            images: &[("examples/migrate/guest.elf", MIGRATE)],
+            disk: &[],
+            status: 0,
+            monitored: "guest 0 console 10\n123456789\n\nend halted\nsums steps 71 refills 6 moves 2 skips 2 breaks 0 shared 0 received 0 discarded 0\n",
+            alone: "guest 0 console 10\n123456789\n\nend halted\n",
+        },
+        Example {
             about: "packets",
             description: PACKETS_DESCRIPTION,
             images: &[
-                ("examples/packets/guest0.raw", ASKS),
-                ("examples/packets/guest1.raw", ANSWERS),
+                ("examples/packets/guest0.elf", ASKS),
+                ("examples/packets/guest1.elf", ANSWERS),
             ],
             disk: &[],
             status: 0,

@@ -18,6 +18,8 @@ mod journals;
 #[cfg(test)]
 mod litmus_files;
 #[cfg(test)]
+mod moves;
+#[cfg(test)]
 mod packets;
 #[cfg(test)]
 mod parallel;
@@ -31,3 +33,5 @@ mod spaces;
 mod states;
 #[cfg(test)]
 mod tests;
+#[cfg(test)]
+mod texts;

@@ -55,7 +55,7 @@ const SUM: usize = 24;
 const ADDIU: u32 = 0x240E_0000;
 
 /// The program for so many virtual processors.
-fn counts(alloc: Global, vcpus: u8) -> Result<Bytes, AllocError> {
+pub(crate) fn counts(alloc: Global, vcpus: u8) -> Result<Bytes, AllocError> {
     let mut bytes = Vec::new(alloc);
     for (place, word) in COUNTS.iter().enumerate() {
         let word = match place {
@@ -211,9 +211,19 @@ impl Gate for Meeting {
 
 /// Delays turns, each by another measure, which is made of the schedule's number, the processor and the turn.
 #[derive(Drop)]
-struct Delaying {
+pub(crate) struct Delaying {
     schedule: u64,
     waste: AtomicU64,
+}
+
+impl Delaying {
+    /// The gate of a schedule.
+    pub(crate) fn new(schedule: u64) -> Self {
+        Delaying {
+            schedule,
+            waste: AtomicU64::new(0),
+        }
+    }
 }
 
 impl Gate for Delaying {
@@ -275,10 +285,7 @@ fn virtual_processors_count_together(rt: HostRuntime) -> Result<(), Fail> {
         "Y",
     )?;
     for schedule in 0..20 {
-        let gate = Delaying {
-            schedule,
-            waste: AtomicU64::new(0),
-        };
+        let gate = Delaying::new(schedule);
         try_run(&rt, alloc, text.as_str(), counts(alloc, 2)?, &gate, 1, "Y")?;
     }
     Ok(())

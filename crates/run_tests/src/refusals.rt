@@ -93,12 +93,21 @@ fn what_isnt_built_is_refused(rt: HostRuntime) -> Result<(), Fail> {
         refused(
             &[FIFTEEN_STEPS, MOVE_AND_FAILURE],
             5,
-            "fault description unbuilt work[1].act\n",
+            "fault description unbuilt work[2].act\n",
         ),
         refused(
             &[DISK, FIFTEEN_STEPS, MOVE_AND_FAILURE],
             5,
-            "fault description unbuilt work[1].act\n",
+            "fault description unbuilt work[2].act\n",
+        ),
+        refused(
+            &[
+                FIFTEEN_STEPS,
+                MOVE_AND_FAILURE,
+                ("\"migrate\"", "\"replicate\""),
+            ],
+            5,
+            "fault description unbuilt work[1].kind\n",
         ),
     ];
     try_all(&rt, rt.alloc(), &cases)?;

@@ -15,10 +15,11 @@ pub(crate) const PRINTS_A: [u8; 20] = [
     0xAC, 0x22, 0x00, 0x04,
 ];
 
-/// A call, and what has to come of it.
+/// A call over one file, and what has to come of it.
 #[derive(Clone, Copy)]
 pub(crate) struct Row<'a> {
     pub(crate) about: &'a str,
+    pub(crate) name: &'a str,
     pub(crate) words: &'a [&'a str],
     pub(crate) file: &'a [u8],
     pub(crate) shelf_fails: &'a [u64],
@@ -32,6 +33,7 @@ pub(crate) struct Row<'a> {
 pub(crate) fn halts<'a>() -> Row<'a> {
     Row {
         about: "five steps",
+        name: "a.raw",
         words: &["--raw", "a.raw", "--steps", "5"],
         file: &PRINTS_A,
         shelf_fails: &[],
@@ -54,11 +56,11 @@ fn refused<'a>(about: &'a str, words: &'a [&'a str]) -> Row<'a> {
     }
 }
 
-/// A shelf that holds one file, a.raw.
-fn shelf_of(alloc: Global, file: &[u8], fails: &[u64]) -> Result<MemShelf, AllocError> {
+/// A shelf that holds one file.
+fn shelf_of(alloc: Global, name: &str, file: &[u8], fails: &[u64]) -> Result<MemShelf, AllocError> {
     let mut files = FileList::new(alloc);
     files.push(HeldFile {
-        name: Name::copy_of(alloc, "a.raw")?,
+        name: Name::copy_of(alloc, name)?,
         bytes: Bytes::from_vec(file.to_vec(alloc)?),
     })?;
     Ok(MemShelf::new(alloc, files, CallList::from_vec(fails.to_vec(alloc)?)))
@@ -94,7 +96,7 @@ pub(crate) fn try_row<R: Abort + Threads + Wait + Sync>(
     alloc: Global,
     row: &Row,
 ) -> Result<(), AllocError> {
-    let mut shelf = shelf_of(alloc, row.file, row.shelf_fails)?;
+    let mut shelf = shelf_of(alloc, row.name, row.file, row.shelf_fails)?;
     let mut sink = MemSink::new(alloc, CallList::from_vec(row.sink_fails.to_vec(alloc)?));
     let words = words_of(alloc, row.words)?;
     let mut out = RunRecord::empty(alloc);

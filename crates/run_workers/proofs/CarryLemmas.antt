@@ -1,20 +1,25 @@
 -- One item more.
 use Rattle.std.proofs.Common.{◌≡◌, ℕ, zero, suc, ◌+◌, ◌<◌, ◌≤◌, ◌==◌, if◌then◌else◌, Bool, true, false, List, [], ◌∷◌, ◌++◌, map, take, length, get_or, refl, sym, ap, ◌∙◌, subst, arith, append-nil, append_assoc, Option, Some, None}
 use Rattle.base_words.specs.declared.ids.GuestId.{GuestId}
+use Rattle.base_words.specs.declared.ids.NodeId.{NodeId}
+use Rattle.base_words.specs.declared.ids.Ppn.{Ppn}
 use Rattle.base_words.specs.declared.ids.ProcId.{ProcId}
 use Rattle.base_words.specs.declared.ids.VcpuId.{VcpuId}
+use Rattle.base_words.specs.declared.moves.MoveKind.{MoveKind}
 use Rattle.shootdown.specs.declared.view.SidedNote.{SidedNote}
 use Rattle.shootdown.specs.Notes.{Token, sided}
 use Rattle.isolation_law.specs.Start.{Boot}
 use Rattle.machine_desc.specs.declared.plan.Item.{Item}
 use Rattle.machine_desc.specs.declared.plan.Item.TheVariants.{Run, Move, Fail}
+use Rattle.guest_core.specs.Asks.{note_of}
 use Rattle.guest_core.specs.declared.records.SliceRecord.{SliceRecord}
+use Rattle.guest_lock.specs.Told.{with_told}
 use Rattle.plan_due.specs.Planned.{Planned, planned_as, planned}
 use Rattle.plan_due.specs.Slices.{Machine, IsSlice, IsTold, own, AreTold}
 use Rattle.plan_due.specs.declared.outcome.Outcome.{Outcome}
-use Rattle.plan_due.specs.declared.outcome.Outcome.TheVariants.{Slice}
+use Rattle.plan_due.specs.declared.outcome.Outcome.TheVariants.{Slice, Asked}
 use Rattle.run_workers.specs.Parts.{as_list}
-use Rattle.run_workers.specs.Working.{cell_in, machine_of, Serves, is_own, Carries, CarriesOne}
+use Rattle.run_workers.specs.Working.{cell_in, machine_of, wish_for, Serves, is_own, Carries, CarriesOne}
 
 -- ---- lists
 
@@ -94,4 +99,11 @@ carries-run starts number p g v n old new slice own served = record {
     refl,
   );
   token = served.token;
+}
+
+pub carries-ask : (starts : List Boot) (number : ℕ) (p : ProcId) (g : GuestId) (page : Ppn) (kind : MoveKind) (node : NodeId) (old new : Token) → new ≡ with_told old g.0 (note_of (wish_for page kind node) ∷ []) → Carries (machine_of starts) (planned_as number (Move p g page kind node)) old Asked new
+carries-ask starts number p g page kind node old new token = record {
+  told = sided g.0 (note_of (wish_for page kind node)) ∷ [];
+  is = refl;
+  token = token;
 }

@@ -1,12 +1,15 @@
 -- Guests that were only asked tell the same of their wires.
-use Rattle.std.proofs.Common.{◌≡◌, ◌≢◌, ℕ, zero, suc, ◌+◌, ◌<◌, ◌==◌, Bool, true, false, List, [], ◌∷◌, length, length-set, set, Some, refl, sym, ap, ◌∙◌, subst, arith}
+use Rattle.std.proofs.Common.{◌≡◌, ◌≢◌, ℕ, zero, suc, ◌+◌, ◌<◌, ◌==◌, Bool, true, false, List, [], ◌∷◌, length, length-set, set, Some, Ok, refl, sym, ap, ◌∙◌, subst, arith}
 use Rattle.std.specs.Prelude.{slice_get}
 use Rattle.std.proofs.lemmas.Bool.{eqb-true, eqb-false}
 use Rattle.wire_queue.specs.ListSteps.{SameEnds, HasTaken}
 use Rattle.wire_queue.specs.PassLists.{sending_to, taking_from}
 use Rattle.wire_queue.specs.declared.lists.PassList.{PassList}
 use Rattle.guest_core.specs.GuestView.{Monitored, Shared, IsSameGuest}
-use Rattle.guest_core.specs.PacketCalls.{IsArmed, KeepsEnds, SameSends}
+use Rattle.guest_core.specs.Making.{Stays}
+use Rattle.guest_core.specs.PacketCalls.{IsArmed, KeepsEnds, SameSends, TakesPacket}
+use Rattle.guest_core.specs.declared.answers.Packeted.{Packeted}
+use Rattle.guest_core.specs.declared.answers.Packeted.TheVariants as packeted
 use Rattle.run_workers.specs.Draining.{HasAll, Receives, AreKept, AreOthers}
 
 -- ---- lists by their places
@@ -146,3 +149,23 @@ receives-trans g h k a b = record {
 
 pub receives-kept : (g h : Monitored) → KeepsEnds g h → Receives g h
 receives-kept g h a = record { same = a.same; end = ap (λ s. s.end) a.stays.state; sends = sends-of g.passes h.passes a.ends }
+
+-- room was made for one more
+pub receives-room : (g h : Monitored) → IsSameGuest g h → Stays g h → h.passes ≡ g.passes → Receives g h
+receives-room g h same stays passes = record {
+  same = same;
+  end = ap (λ s. s.end) stays.state;
+  sends = record { guest = ap (λ p. p.guest) passes; sends = λ to. ap (λ p. sending_to p to) passes };
+}
+
+-- the guest was asked for a packet: it goes on, or nothing of its state has changed
+end-still : (g h : Monitored) (answer : Packeted) → TakesPacket g h (Ok answer) → h.state.end ≡ g.state.end
+end-still g h packeted.Delivered takes = takes.1.not_ended ∙ sym takes.0.not_ended
+end-still g h (packeted.Begun q) takes = takes.has.goes_on ∙ sym takes.has.not_ended
+end-still g h (packeted.Finished q) takes = takes.has.goes_on ∙ sym takes.has.not_ended
+end-still g h (packeted.Waits q set) takes = takes.has.goes_on ∙ sym takes.has.not_ended
+end-still g h packeted.NoneInHand takes = ap (λ s. s.end) takes.stays.state
+end-still g h packeted.NotArmed takes = ap (λ (m : Monitored). m.state.end) takes.same
+
+pub receives-packet : (g h : Monitored) (answer : Packeted) → IsSameGuest g h → SameSends g.passes h.passes → TakesPacket g h (Ok answer) → Receives g h
+receives-packet g h answer same sends takes = record { same = same; end = end-still g h answer takes; sends = sends }

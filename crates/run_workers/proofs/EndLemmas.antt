@@ -1,17 +1,18 @@
 -- One guest more has ended.
-use Rattle.std.proofs.Common.{◌≡◌, ◌≢◌, ℕ, zero, suc, ◌+◌, ◌<◌, List, [], ◌∷◌, ◌++◌, length, length-append, All, sym, ap, ◌∙◌, subst, arith, refl, Some, true}
+use Rattle.std.proofs.Common.{◌≡◌, ◌≢◌, ℕ, zero, suc, ◌+◌, ◌<◌, List, [], ◌∷◌, ◌++◌, length, length-append, All, sym, ap, ◌∙◌, subst, arith, refl, Option, Some, None, is_some, true, false}
 use Rattle.std.specs.Prelude.{slice_get}
 use Rattle.atomic_table.specs.Seated.{TableId}
 use Rattle.base_words.specs.declared.events.Event.{Event}
+use Rattle.base_words.specs.declared.events.End.{End}
 use Rattle.base_words.specs.declared.events.End.TheVariants.{Budget}
 use Rattle.shootdown.specs.declared.view.SidedNote.{SidedNote}
 use Rattle.shootdown.specs.Notes.{Seat}
 use Rattle.isolation_law.specs.GuestState.{GuestState}
-use Rattle.isolation_law.specs.EndRows.{Ends}
 use Rattle.isolation_law.specs.Run.{Run}
 use Rattle.isolation_law.specs.Start.{Boot, start}
 use Rattle.isolation_law.specs.WireHistory.{EndsWaiting}
 use Rattle.guest_core.specs.GuestView.{Monitored, Shared, IsSameGuest}
+use Rattle.guest_core.specs.MoveCalls.{EndsByPlan}
 use Rattle.guest_core.specs.Noting.{IsNoted}
 use Rattle.guest_core.specs.Records.{IsRecord}
 use Rattle.guest_core.specs.Wiring.{IsWired, Posted}
@@ -27,14 +28,19 @@ use Rattle.run_workers.proofs.LoopLemmas.{left-more}
 
 -- ---- the end of one guest
 
--- the plan's end keeps what is armed and in hand
-pub ends-by-plan : (guest room last : Monitored) (passes : PassList) → passes ≡ guest.passes → room.state ≡ guest.state → Ends room.state Budget last.state → EndsSo guest last.state passes
-ends-by-plan guest room last passes same stays row =
-    let before = subst (λ (s : GuestState). Ends s Budget last.state) stays row in
+pub none-of : (end : Option End) → is_some end ≡ false → end ≡ None
+none-of None is = refl
+none-of (Some end) is = absurd cc
+
+-- the plan's end, and the moves that are finished before, keep what is armed and in hand
+pub ends-by-plan : (guest room last : Monitored) (passes : PassList) → passes ≡ guest.passes → room.state ≡ guest.state → guest.state.end ≡ None → EndsByPlan room.state last.state → EndsSo guest last.state passes
+ends-by-plan guest room last passes same stays goes_on ends =
+    let before = subst (λ (s : GuestState). EndsByPlan s last.state) stays ends in
+    let devices = ap (λ (s : GuestState). s.devices) before.row.after ∙ before.devices in
     record {
       same = same;
-      armed = λ waits. record { not_ended = before.may.not_ended; armed = λ e. waits.1 (ap (λ (s : GuestState). s.devices.armed) before.after ∙ e) };
-      hand = λ waits. ap (λ (s : GuestState). s.hand) before.after;
+      armed = λ waits. record { not_ended = goes_on; armed = λ e. waits.1 (ap (λ d. d.armed) devices ∙ e) };
+      hand = λ waits. ap (λ (s : GuestState). s.hand) before.row.after ∙ before.hand;
     }
 
 -- a guest that had ended waits for nothing

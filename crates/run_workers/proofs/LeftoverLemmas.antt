@@ -96,7 +96,9 @@ all-places starts count guests k (item ∷ items) same places on =
     by (Run p g v steps) place is =
         let few = (get-index starts g.0 place.start place.start place.named).0 in
         record { on = is; guest = get-there guests g.0 (omega (arith, few, same)) }
-    by (Move p g page kind node) place is = absurd place
+    by (Move p g page kind node) place is =
+        let few = (get-index starts g.0 place.start place.start place.named).0 in
+        record { on = is; guest = get-there guests g.0 (omega (arith, few, same)) }
     by (Fail p cell) place is = absurd place
 
 -- no item is a failure
@@ -108,7 +110,9 @@ no-failures starts c k (item ∷ items) places = by item (places 0 item (omega a
     by (Run p g v steps) place rest =
         let first = sum_by-cons (λ (x : Planned). cond {A = ℕ} (is_fail_of c x) 1 0) (planned_as k (Run p g v steps)) (planned (suc k) items) in
         omega (arith, first, rest)
-    by (Move p g page kind node) place rest = absurd place
+    by (Move p g page kind node) place rest =
+        let first = sum_by-cons (λ (x : Planned). cond {A = ℕ} (is_fail_of c x) 1 0) (planned_as k (Move p g page kind node)) (planned (suc k) items) in
+        omega (arith, first, rest)
     by (Fail p cell) place rest = absurd place
 
 pub fails-once : (starts : List Boot) (items : List Item) → All (ItemFits starts) items → (c : ℕ) → count_by (is_fail_of c) (planned 0 items) ≤ 1

@@ -1,7 +1,8 @@
 -- A named run: its guests under their locks, its workers before and after, and what is left.
-use Rattle.std.proofs.Common.{◌≡◌, ℕ, zero, suc, ◌+◌, ◌<◌, List, [], ◌∷◌, ◌++◌, map, length, All, refl, sym, ap, ◌∙◌, subst, arith, append_assoc, length-append, Option, Some, None, get_or, Vec}
+use Rattle.std.proofs.Common.{◌≡◌, ℕ, zero, suc, ◌+◌, ◌<◌, ◌≤◌, List, [], ◌∷◌, ◌++◌, map, length, All, refl, sym, ap, ◌∙◌, subst, arith, append_assoc, length-append, Option, Some, None, get_or, Vec}
 use Rattle.std.specs.Prelude.{slice_get, slice_index_or, option_map}
 use Rattle.std.specs.declared.alloc.Global.{Global}
+use Rattle.base_words.specs.Limits.{most_processors}
 use Rattle.atomic_table.specs.Seated.{TableId}
 use Rattle.base_words.specs.declared.events.End.TheVariants.{Budget}
 use Rattle.shootdown.specs.Notes.{Token, Seat}
@@ -96,9 +97,10 @@ fresh-token-at board tokens ws i w all are at =
     let is : Some w.token ≡ Some (fresh_token board (0 + i)) = sym there ∙ ap (λ l. slice_get l i) all ∙ numbered-get (fresh_token board) 0 (length tokens) i few in
     (few, some-same _ _ is ∙ ap (fresh_token board) (let e : 0 + i ≡ i = omega arith in e))
 
-fits-at : (guests : List Monitored) (board : TableId) (count i : ℕ) (token : Token) → ((g : ℕ) (guest : Monitored) → slice_get guests g ≡ Some guest → length guest.start.around.processors ≡ count) → i < count → token ≡ fresh_token board i → Fits (map start_of guests) board token
-fits-at guests board count i token processors few is = record {
+fits-at : (guests : List Monitored) (board : TableId) (count i : ℕ) (token : Token) → ((g : ℕ) (guest : Monitored) → slice_get guests g ≡ Some guest → length guest.start.around.processors ≡ count) → count ≤ most_processors → i < count → token ≡ fresh_token board i → Fits (map start_of guests) board token
+fits-at guests board count i token processors most few is = record {
   board_is = ap (λ (t : Token). t.board) is;
+  few = subst (λ n. n < most_processors) (sym (ap (λ (t : Token). t.number) is)) (let l : i < most_processors = omega (arith, few, most) in l);
   is_processor = λ g b named.
       let guest = get-map start_of guests g b named in
       let many = processors g guest.0 guest.1 in
@@ -107,12 +109,12 @@ fits-at guests board count i token processors few is = record {
       omega (arith, many, same, number, few);
 }
 
-pub ready : (guests : List Monitored) (board : TableId) (tokens : List Token) (ws : List Worker) → tokens ≡ numbered (fresh_token board) 0 (length tokens) → ((g : ℕ) (guest : Monitored) → slice_get guests g ≡ Some guest → length guest.start.around.processors ≡ length tokens) → map token_of ws ≡ tokens → (i : ℕ) (d : Worker) → i < length ws → IsReady (map start_of guests) board (slice_index_or ws i d)
-ready guests board tokens ws all processors are i d l =
+pub ready : (guests : List Monitored) (board : TableId) (tokens : List Token) (ws : List Worker) → tokens ≡ numbered (fresh_token board) 0 (length tokens) → ((g : ℕ) (guest : Monitored) → slice_get guests g ≡ Some guest → length guest.start.around.processors ≡ length tokens) → length tokens ≤ most_processors → map token_of ws ≡ tokens → (i : ℕ) (d : Worker) → i < length ws → IsReady (map start_of guests) board (slice_index_or ws i d)
+ready guests board tokens ws all processors most are i d l =
     let there = get-there ws i l in
     let at = fresh-token-at board tokens ws i there.0 all are there.1 in
     subst (IsReady (map start_of guests) board) (sym (get-index ws i there.0 d there.1).1) (record {
-      fits = fits-at guests board (length tokens) i there.0.token processors at.0 at.1;
+      fits = fits-at guests board (length tokens) i there.0.token processors most at.0 at.1;
       no_notes = ap (λ (t : Token). t.notes) at.1;
     })
 

@@ -13,6 +13,7 @@ use Rattle.guest_core.specs.declared.records.Cut.{Cut}
 use Rattle.guest_lock.specs.declared.burst.Burst.{Burst}
 use Rattle.guest_lock.specs.declared.burst.Stop.{Stop}
 use Rattle.guest_lock.specs.declared.burst.Stop.TheVariants as stop
+use Rattle.guest_lock.specs.Counted.{goes_on}
 use Rattle.guest_lock.specs.Told.{with_told, shown, vcpu_shown, told_of_stop, AreSteps, Bursts}
 use Rattle.plan_due.specs.Slices.{IsCause, framed}
 use Rattle.plan_due.specs.Stops.{told_of_stop as told_at_end}
@@ -30,9 +31,18 @@ loaded-shown shows old new g p v e = ap (shown g) e ∙ shows old g (Made (Load 
 
 same-told : (v : VcpuId) (s : Stop) → told_of_stop v s ≡ told_at_end v (as_told s)
 same-told v stop.Paused = refl
+same-told v (stop.Waits page) = refl
 same-told v stop.VcpuHalted = refl
 same-told v (stop.GuestEnded end) = refl
 same-told v stop.Memory = refl
+
+-- who goes on goes on
+pub goes_on-twice : (s : Stop) → goes_on (goes_on s) ≡ goes_on s
+goes_on-twice stop.Paused = refl
+goes_on-twice (stop.Waits page) = refl
+goes_on-twice stop.VcpuHalted = refl
+goes_on-twice (stop.GuestEnded end) = refl
+goes_on-twice stop.Memory = refl
 
 pub served-done : Grows → Shows → (g : ℕ) (cell item planned : ℕ) (v : VcpuId) (old loaded turned new : Token) (burst : Burst) (cut : Cut) →
     loaded ≡ with_told old g (Made (Load (processor_of old) v) ∷ []) → Bursts loaded g burst turned →

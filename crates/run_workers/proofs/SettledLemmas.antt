@@ -4,7 +4,7 @@ use Rattle.std.specs.Prelude.{slice_get, slice_index_or}
 use Rattle.std.proofs.lemmas.List.{append_assoc}
 use Rattle.atomic_table.specs.Seated.{TableId}
 use Rattle.isolation_law.specs.Start.{Boot}
-use Rattle.guest_core.specs.GuestView.{Monitored, Shared}
+use Rattle.guest_core.specs.GuestView.{Monitored, Shared, AreOf, IsSameGuest}
 use Rattle.guest_core.specs.Holding.{FitsAround}
 use Rattle.guest_core.specs.PacketCalls.{IsArmed, KeepsEnds, SameSends}
 use Rattle.guest_lock.specs.Guests.{IsGuestOf, GuestsFrom}
@@ -42,15 +42,19 @@ at-right (x ∷ xs) y ys (suc j) k h is e = at-right xs y ys j k h (omega (arith
 
 -- ---- the guests stay the run's
 
+-- what guests share stays the same
+pub are-of : (shared : Shared) (g h : Monitored) → IsSameGuest g h → AreOf shared g → AreOf shared h
+are-of shared g h same are = record {
+  table = record { made = same.table ∙ are.table.made; fits = subst (λ (b : Boot). FitsAround shared.table b.around) (sym same.start) are.table.fits };
+  wires = same.wires ∙ are.wires;
+}
+
 is-guest : (starts : List Boot) (board : TableId) (shared : Shared) (k : ℕ) (g h : Monitored) → IsGuestOf starts board shared k g → Receives g h → IsGuestOf starts board shared k h
 is-guest starts board shared k g h is r = record {
   number_is = r.same.number ∙ is.number_is;
   start_is = is.start_is ∙ ap Some (sym r.same.start);
   board_is = r.same.board ∙ is.board_is;
-  shared_is = record {
-    table = record { made = r.same.table ∙ is.shared_is.table.made; fits = subst (λ (b : Boot). FitsAround shared.table b.around) (sym r.same.start) is.shared_is.table.fits };
-    wires = r.same.wires ∙ is.shared_is.wires;
-  };
+  shared_is = are-of shared g h r.same is.shared_is;
   own_is = ap (λ n. n.0) r.same.own ∙ is.own_is;
   goes_on = λ e. is.goes_on (sym r.end ∙ e);
 }
@@ -100,8 +104,8 @@ others-after starts board shared gs g xs from =
           absurd (omega (arith, it.own_is, me.own_is, e));
     }
 
-pub next-wires : (starts : List Boot) (board : TableId) (shared : Shared) (gs : List Monitored) (g : Monitored) (xs : List Monitored) → GuestsFrom starts board shared 0 (gs ++ g ∷ xs) → g.wires ≡ shared.wires
-next-wires starts board shared gs g xs from = (guest-at starts board shared 0 (gs ++ g ∷ xs) (length gs) g from (at-mid gs g xs)).shared_is.wires
+pub next-shared : (starts : List Boot) (board : TableId) (shared : Shared) (gs : List Monitored) (g : Monitored) (xs : List Monitored) → GuestsFrom starts board shared 0 (gs ++ g ∷ xs) → AreOf shared g
+next-shared starts board shared gs g xs from = (guest-at starts board shared 0 (gs ++ g ∷ xs) (length gs) g from (at-mid gs g xs)).shared_is
 
 -- ---- what was taken
 

@@ -1,21 +1,23 @@
 -- From a description to the run of its guests.
-use Rattle.std.proofs.Common.{◌≡◌, ℕ, zero, suc, ◌+◌, ◌<◌, List, [], ◌∷◌, map, length, refl, sym, ap, ◌∙◌, subst, arith, true, Option, Some, None, Result, Ok, Err, IfOk}
+use Rattle.std.proofs.Common.{◌≡◌, ℕ, zero, suc, ◌+◌, ◌<◌, List, [], ◌∷◌, map, length, refl, sym, ap, ◌∙◌, subst, arith, inl, true, Option, Some, None, Result, Ok, Err, IfOk}
 use Rattle.std.specs.Prelude.{slice_get, slice_index_or}
 use Rattle.std.specs.Option.{IsSomeAnd}
 use Rattle.std.specs.declared.alloc.AllocError.{AllocError}
 use Rattle.std.proofs.lemmas.List.{length-map}
 use Rattle.atomic_table.specs.Seated.{TableId}
 use Rattle.base_words.specs.declared.input.InputEntry.{InputEntry}
+use Rattle.base_words.specs.declared.moves.MoveKind.TheVariants.{Migrate, Replicate, Collapse, Break, TakeShared, GiveShared}
 use Rattle.run_workers.specs.declared.source.Source.{Source}
 use Rattle.frame_words.specs.Holders.{Holding}
 use Rattle.shootdown.specs.Notes.{Token}
 use Rattle.shootdown.specs.Making.{numbered, fresh_token}
 use Rattle.isolation_law.specs.Start.{Boot}
 use Rattle.isolation_law.specs.Surroundings.{Surroundings, cell_of_processor}
+use Rattle.private_machine.specs.PrivateRun.{Image as Given}
 use Rattle.machine_desc.specs.declared.machine.GuestSpec.{GuestSpec}
 use Rattle.machine_desc.specs.declared.plan.Item.{Item}
 use Rattle.machine_desc.specs.declared.plan.Item.TheVariants.{Run, Move, Fail}
-use Rattle.machine_desc.specs.Bounds.{IsItem}
+use Rattle.machine_desc.specs.Bounds.{LeadsTo, IsItem}
 use Rattle.machine_desc.specs.Described.{Described}
 use Rattle.machine_desc.specs.Accepted.{IsAccepted}
 use Rattle.wire_queue.specs.Between.{Made}
@@ -23,13 +25,14 @@ use Rattle.wire_queue.specs.Closing.{AreInOrder}
 use Rattle.wire_queue.specs.declared.lists.PassList.{PassList}
 use Rattle.guest_core.specs.GuestView.{Monitored, Shared}
 use Rattle.guest_core.specs.declared.records.RunRecord.{RunRecord}
-use Rattle.unbuilt_keys.specs.Unbuilt.{is_run}
+use Rattle.unbuilt_keys.specs.Unbuilt.{is_built}
 use Rattle.unbuilt_keys.specs.Built.{IsBuilt}
-use Rattle.run_workers.specs.Starting.{around_of, IsStart, AreStarts}
+use Rattle.run_workers.specs.Starting.{around_of, IsStart, AreStarts, AreSources}
 use Rattle.run_workers.specs.WholeRecord.{IsWhole}
 use Rattle.run_workers.specs.Working.{cell_in, ItemFits, IsOn}
 use Rattle.run_workers.specs.Booting.{start_of, IsFresh, IsStarted, AreBooted, HasBooted}
 use Rattle.run_workers.specs.Named.{board_of_tokens, MayRun, IsRunOf}
+use Rattle.run_workers.proofs.BootLemmas.{source-at, sources-count}
 use Rattle.run_workers.proofs.WholeLemmas.{get-index, get-there}
 use Rattle.run_workers.proofs.RunLemmas.{map-get, numbered-length}
 use Rattle.run_workers.proofs.PacketLemmas.{meet-wires}
@@ -52,8 +55,8 @@ started-at d sources board shared guests g guest are at =
     let source = get-there sources g (omega arith) in
     (source.0, source.1, are.each g guest source.0 at source.1)
 
-item-fits : (d : Described) (sources : List Source) (board : TableId) (shared : Shared) (guests : List Monitored) (item : Item) → length guests ≡ length d.guests → AreBooted d sources board shared guests → IsItem d item → is_run item ≡ true → ItemFits (map start_of guests) item
-item-fits d sources board shared guests (Run p g v steps) count are is runs = by (slice_get d.guests g.0) refl is.of
+item-fits : (d : Described) (sources : List Source) (board : TableId) (shared : Shared) (guests : List Monitored) (item : Item) → length d.cells ≡ d.nodes → length guests ≡ length d.guests → AreSources d.guests sources → AreBooted d sources board shared guests → IsItem d item → is_built item ≡ true → ItemFits (map start_of guests) item
+item-fits d sources board shared guests (Run p g v steps) nodes count from are is built = by (slice_get d.guests g.0) refl is.of
   where
     by : (o : Option GuestSpec) → slice_get d.guests g.0 ≡ o → IsSomeAnd o (λ spec. v.0 < spec.vcpus) → ItemFits (map start_of guests) (Run p g v steps)
     by None e of = absurd of
@@ -64,8 +67,33 @@ item-fits d sources board shared guests (Run p g v steps) count are is runs = by
         let same = same-some started.2.spec spec (sym started.2.spec_is ∙ e) in
         let vcpus : guest.0.start.vcpus ≡ spec.vcpus = started.2.start.vcpus ∙ ap (λ (s : GuestSpec). s.vcpus) same in
         record { start = guest.0.start; named = map-get start_of guests g.0 guest.0 guest.1; vcpu = subst (λ n. v.0 < n) (sym vcpus) of }
-item-fits d sources board shared guests (Move p g page kind node) count are is runs = absurd cc
-item-fits d sources board shared guests (Fail p cell) count are is runs = absurd cc
+item-fits d sources board shared guests (Move p g page Migrate node) nodes count from are is built = by (slice_get d.guests g.0) refl is.of is.to
+  where
+    by : (o : Option GuestSpec) → slice_get d.guests g.0 ≡ o → IsSomeAnd o (λ spec. page.0 < spec.pages) → IsSomeAnd o (λ spec. LeadsTo d.nodes spec Migrate node) → ItemFits (map start_of guests) (Move p g page Migrate node)
+    by None e of to = absurd of
+    by (Some spec) e of to =
+        let few = (get-index d.guests g.0 spec spec e).0 in
+        let guest = get-there guests g.0 (let l : g.0 < length guests = omega arith in l) in
+        let started = started-at d sources board shared guests g.0 guest.0 are guest.1 in
+        let source = source-at d.guests sources g.0 started.0 spec from started.1 e in
+        let b = guest.0.start in
+        let pages : b.image.pages ≡ spec.pages = ap (λ (i : Given). i.pages) started.2.start.image_is ∙ source.pages in
+        let wide : length b.around.nodes ≡ d.nodes = ap (λ (w : Surroundings). length w.nodes) started.2.start.around ∙ length-map d.cells (λ c. c.0) ∙ nodes in
+        record {
+          start = b;
+          named = map-get start_of guests g.0 guest.0 guest.1;
+          may = record {
+            is_page = subst (λ n. page.0 < n) (sym pages) of;
+            is_node = subst (λ n. node.0 < n) (sym wide) to;
+            planned = inl refl;
+          };
+        }
+item-fits d sources board shared guests (Move p g page Replicate node) nodes count from are is built = absurd cc
+item-fits d sources board shared guests (Move p g page Collapse node) nodes count from are is built = absurd cc
+item-fits d sources board shared guests (Move p g page Break node) nodes count from are is built = absurd cc
+item-fits d sources board shared guests (Move p g page TakeShared node) nodes count from are is built = absurd cc
+item-fits d sources board shared guests (Move p g page GiveShared node) nodes count from are is built = absurd cc
+item-fits d sources board shared guests (Fail p cell) nodes count from are is built = absurd cc
 
 item-on : (d : Described) (count : ℕ) (item : Item) → count ≡ length d.processors → IsItem d item → IsOn count item
 item-on d count (Run p g v steps) same is = subst (λ n. p.0 < n) (sym same) is.on
@@ -83,8 +111,9 @@ cells-at d sources board shared guests (x ∷ all) are g guest at p within =
     let other : cell_of_processor x.start.around p ≡ cell_of_processor (around_of d 0 first.spec) p = ap (λ (w : Surroundings). cell_of_processor w p) first.start.around in
     one ∙ sym other
 
-pub may-run : (d : Described) (sources : List Source) (guests : List Monitored) (tokens : List Token) (shared : Shared) (holder : Holding) → IsAccepted d → IsBuilt d → length sources ≡ length d.guests → HasBooted d sources guests tokens shared holder → MayRun guests tokens shared d.items
-may-run d sources guests tokens shared holder accepted built many booted =
+pub may-run : (d : Described) (sources : List Source) (guests : List Monitored) (tokens : List Token) (shared : Shared) (holder : Holding) → IsAccepted d → IsBuilt d → AreSources d.guests sources → HasBooted d sources guests tokens shared holder → MayRun guests tokens shared d.items
+may-run d sources guests tokens shared holder accepted built from booted =
+    let many = sources-count d.guests sources from in
     let board = booted.board in
     let are = booted.guests_are in
     let count = are.count in
@@ -94,9 +123,11 @@ may-run d sources guests tokens shared holder accepted built many booted =
     let board-is = token-board d board tokens booted.tokens_are some in
     let all : length guests ≡ length d.guests = are.count ∙ many in
     let few-items = accepted.few_items in
+    let few-processors = accepted.few_processors in
     record {
       few = omega arith;
       some = subst (λ n. 0 < n) (sym length-is) some;
+      few_tokens = omega (arith, length-is, few-processors);
       guests_are = λ g guest at. subst (λ b. IsFresh b shared g guest) (sym board-is) (started-at d sources board shared guests g guest are at).2.fresh;
       numbers = λ g guest at. (let started = (started-at d sources board shared guests g guest are at).2 in ap (λ w. w.guest) started.start.around);
       wires = booted.wires;
@@ -104,7 +135,7 @@ may-run d sources guests tokens shared holder accepted built many booted =
       processors = λ g guest at. (let started = (started-at d sources board shared guests g guest are at).2 in ap (λ w. length w.processors) started.start.around ∙ length-map d.processors (λ n. n.0) ∙ sym length-is);
       cells = λ g guest at p. cells-at d sources board shared guests guests are g guest at p (λ i x e. e);
       few_items = omega arith;
-      places = λ i e l. item-fits d sources board shared guests (slice_index_or d.items i e) all are (accepted.items i e l) (built.runs i e l);
+      places = λ i e l. item-fits d sources board shared guests (slice_index_or d.items i e) accepted.in_cells all from are (accepted.items i e l) (built.built i e l);
       on = λ i e l. item-on d (length tokens) (slice_index_or d.items i e) length-is (accepted.items i e l);
     }
 

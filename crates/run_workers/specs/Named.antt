@@ -1,5 +1,6 @@
 -- What a run needs of its guests, tokens and items, and what it leaves.
 use Rattle.std.specs.Prelude.{◌≡◌, ℕ, ◌<◌, ◌≤◌, ◌^◌, List, [], ◌∷◌, length, map, All, slice_get, Some}
+use Rattle.base_words.specs.Limits.{most_processors}
 use Rattle.atomic_table.specs.Seated.{TableId}
 use Rattle.shootdown.specs.Notes.{Token}
 use Rattle.shootdown.specs.Making.{numbered, fresh_token}
@@ -26,6 +27,7 @@ board_of_tokens (token ∷ tokens) = token.board
 pub record MayRun (guests : List Monitored) (tokens : List Token) (shared : Shared) (items : List Item) : Type 0 where
   pub few : length guests ≤ 8
   pub some : 0 < length tokens
+  pub few_tokens : length tokens ≤ most_processors
   pub guests_are : (g : ℕ) (guest : Monitored) → slice_get guests g ≡ Some guest → IsFresh (board_of_tokens tokens) shared g guest
   pub tokens_are : tokens ≡ numbered (fresh_token (board_of_tokens tokens)) 0 (length tokens)
   pub numbers : (g : ℕ) (guest : Monitored) → slice_get guests g ≡ Some guest → guest.start.around.guest ≡ g

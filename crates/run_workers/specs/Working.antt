@@ -1,9 +1,13 @@
 -- What a worker needs, and what it has done.
 use Rattle.std.specs.Prelude.{◌≡◌, ℕ, ◌<◌, ◌==◌, ◌++◌, List, [], ◌∷◌, length, Bool, true, false, Option, Some, None, slice_get}
+use Rattle.base_words.specs.declared.ids.NodeId.{NodeId}
+use Rattle.base_words.specs.declared.ids.Ppn.{Ppn}
 use Rattle.base_words.specs.declared.ids.VcpuId.{VcpuId}
+use Rattle.base_words.specs.declared.moves.MoveKind.{MoveKind}
 use Rattle.shootdown.specs.declared.notes.Note.{Note}
 use Rattle.shootdown.specs.declared.view.SidedNote.{SidedNote}
 use Rattle.shootdown.specs.Notes.{Token}
+use Rattle.isolation_law.specs.Parts.{Wish}
 use Rattle.isolation_law.specs.Start.{Boot}
 use Rattle.isolation_law.specs.Surroundings.{cell_of_processor}
 use Rattle.machine_desc.specs.declared.plan.Item.{Item}
@@ -12,6 +16,7 @@ use Rattle.guest_core.specs.GuestCalls.{processor_of}
 use Rattle.guest_core.specs.declared.records.SliceRecord.{SliceRecord}
 use Rattle.guest_lock.specs.declared.burst.Stop.{Stop as BurstStop}
 use Rattle.guest_lock.specs.declared.burst.Stop.TheVariants as burst
+use Rattle.guest_lock.specs.Fits.{MayAsk}
 use Rattle.guest_lock.specs.Told.{with_told}
 use Rattle.plan_due.specs.Planned.{Planned, planned_as}
 use Rattle.plan_due.specs.Slices.{Machine, IsSlice, IsTold}
@@ -33,10 +38,20 @@ pub record HasPlace (starts : List Boot) (g v : ℕ) : Type 0 where
   pub named : slice_get starts g ≡ Some start
   pub vcpu : v < start.vcpus
 
--- so far an item is a run
+-- what a move item asks for
+abbrev pub wish_for : Ppn → MoveKind → NodeId → Wish
+wish_for page kind node = record { page = page.0; kind = kind; node = node.0 }
+
+-- the run has the guest of a move item, which may be asked for it
+pub record HasMove (starts : List Boot) (g : ℕ) (wish : Wish) : Type 0 where
+  pub start : Boot
+  pub named : slice_get starts g ≡ Some start
+  pub may : MayAsk start wish
+
+-- so far an item is a run or a move
 abbrev pub ItemFits : List Boot → Item → Type 0
 ItemFits starts (Run processor guest vcpu steps) = HasPlace starts guest.0 vcpu.0
-ItemFits starts (Move processor guest page kind node) = ⊥
+ItemFits starts (Move processor guest page kind node) = HasMove starts guest.0 (wish_for page kind node)
 ItemFits starts (Fail processor cell) = ⊥
 
 -- board and number stay
@@ -47,6 +62,7 @@ pub record IsSameToken (old new : Token) : Type 0 where
 -- how a burst came to its end, as far as it is told
 abbrev pub as_told : BurstStop → Stop
 as_told burst.Paused = stop.Paused
+as_told (burst.Waits page) = stop.Paused
 as_told burst.VcpuHalted = stop.VcpuHalted
 as_told (burst.GuestEnded end) = stop.GuestEnded end
 as_told burst.Memory = stop.Paused

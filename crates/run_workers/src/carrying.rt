@@ -1,16 +1,18 @@
 //! The items of one processor, carried out in their order.
-ghost use Rattle.std.specs.Prelude.{◌≡◌, ◌≤◌, ◌<◌, ◌++◌, ◌^◌, None, [], All, IfOk, OnOk, length};
+ghost use Rattle.std.specs.Prelude.{◌≡◌, ◌≤◌, ◌<◌, ◌∷◌, ◌++◌, ◌^◌, None, [], All, IfOk, OnOk, length};
+ghost use Rattle.guest_core.specs.Asks.{note_of};
 ghost use Rattle.guest_core.specs.GuestView.{shared_by};
 ghost use Rattle.guest_lock.specs.Fits.{Fits};
 ghost use Rattle.guest_lock.specs.Guests.{IsThere};
-ghost use Rattle.guest_lock.specs.Told.{shown};
+ghost use Rattle.guest_lock.specs.Told.{shown, with_told};
 ghost use Rattle.plan_due.specs.Planned.{planned};
 ghost use Rattle.plan_due.specs.Slices.{own, AreTold};
 ghost use Rattle.run_workers.specs.Parts.{as_list};
-ghost use Rattle.run_workers.specs.Working.{cell_in, machine_of, IsSameToken, HasPlace, ItemFits, Serves, CarriesOne};
+ghost use Rattle.run_workers.specs.Working.{cell_in, machine_of, wish_for, is_own as is_own_of, IsSameToken, HasPlace, HasMove, ItemFits, Serves, CarriesOne};
 
 use crate::serving::{Job, serve};
-use guest_core::{Resources, SliceRecord};
+use base_words::{GuestId, MoveKind, NodeId, Ppn, ProcId};
+use guest_core::{Asked, Resources, SliceRecord};
 use guest_lock::{GuestCell, GuestCells, Starts};
 use machine_desc::Item;
 use outside_io::Gate;
@@ -74,6 +76,82 @@ fn serve_job<N: Starts, R: Wait, T: Gate>(
     }
 }
 
+/// A move of a guest's page that the plan asks for.
+#[derive(Clone, Copy, Debug)]
+struct MoveJob {
+    guest: GuestId,
+    page: Ppn,
+    kind: MoveKind,
+    node: NodeId,
+}
+
+/// Asks for a move of a guest that there is.
+fn ask_at<N: Starts, const G: u8, R: Wait>(
+    rt: &R,
+    alloc: Global,
+    cell: &Option<GuestCell<N, G>>,
+    token: &mut ProcToken,
+    resources: &Resources,
+    job: MoveJob,
+) -> Result<(), AllocError>
+    requires there { IsThere cell.now G N.starts }
+    requires token { Fits N.starts N.board token.old }
+    requires place { HasMove N.starts G (wish_for job.page job.kind job.node) }
+    requires free { shown G token.old ≡ None }
+    requires shared { shared_by resources.now ≡ N.shared }
+    ensures told { OnOk result (token.new ≡ with_told token.old G (note_of (wish_for job.page job.kind job.node) ∷ [])) }
+    ensures same { IsSameToken token.old token.new }
+{
+    let Some(cell) = cell else {
+        unreachable!();
+    };
+    match cell.ask(rt, alloc, token, job.page, job.kind, job.node, resources)? {
+        Asked::Begun | Asked::Skipped => Ok(()),
+        Asked::Busy(_) => unreachable!(),
+    }
+}
+
+/// Asks for a move.
+fn ask_job<N: Starts, R: Wait>(
+    rt: &R,
+    alloc: Global,
+    cells: &GuestCells<N>,
+    token: &mut ProcToken,
+    resources: &Resources,
+    job: MoveJob,
+) -> Result<(), AllocError>
+    requires few { length N.starts ≤ 8 }
+    requires token { Fits N.starts N.board token.old }
+    requires place { HasMove N.starts job.guest.0 (wish_for job.page job.kind job.node) }
+    requires free { shown job.guest.0 token.old ≡ None }
+    requires shared { shared_by resources.now ≡ N.shared }
+    ensures told { OnOk result (token.new ≡ with_told token.old job.guest.0 (note_of (wish_for job.page job.kind job.node) ∷ [])) }
+    ensures same { IsSameToken token.old token.new }
+{
+    match job.guest.0 {
+        0 => ask_at(rt, alloc, &cells.zero, token, resources, job),
+        1 => ask_at(rt, alloc, &cells.one, token, resources, job),
+        2 => ask_at(rt, alloc, &cells.two, token, resources, job),
+        3 => ask_at(rt, alloc, &cells.three, token, resources, job),
+        4 => ask_at(rt, alloc, &cells.four, token, resources, job),
+        5 => ask_at(rt, alloc, &cells.five, token, resources, job),
+        6 => ask_at(rt, alloc, &cells.six, token, resources, job),
+        7 => ask_at(rt, alloc, &cells.seven, token, resources, job),
+        _ => unreachable!(),
+    }
+}
+
+/// Whether an item is one of a processor.
+fn is_own(item: Item, processor: ProcId) -> bool
+    ensures { result ≡ is_own_of processor.0 item }
+{
+    match item {
+        Item::Run { processor: of, .. } => of == processor,
+        Item::Move { processor: of, .. } => of == processor,
+        Item::Fail { processor: of, .. } => of == processor,
+    }
+}
+
 /// Carries out an item, if it is one of the token's processor.
 fn carry_one<N: Starts, R: Wait, T: Gate>(
     rt: &R,
@@ -93,26 +171,43 @@ fn carry_one<N: Starts, R: Wait, T: Gate>(
     ensures carried { IfOk result (λ outcome. CarriesOne (machine_of N.starts) number item token.old outcome token.new) }
     ensures same { IsSameToken token.old token.new }
 {
-    let Item::Run {
-        processor,
-        guest,
-        vcpu,
-        steps,
-    } = item
-    else {
-        unreachable!();
-    };
-    if processor != token.number() {
+    if !is_own(item, token.number()) {
         return Ok(None);
     }
-    let job = Job {
-        item: number,
-        guest,
-        vcpu,
-        steps,
-    };
-    let slice = serve_job(rt, alloc, cells, token, resources, gate, job)?;
-    Ok(Some(Outcome::Slice(slice)))
+    match item {
+        Item::Run {
+            guest,
+            vcpu,
+            steps,
+            ..
+        } => {
+            let job = Job {
+                item: number,
+                guest,
+                vcpu,
+                steps,
+            };
+            let slice = serve_job(rt, alloc, cells, token, resources, gate, job)?;
+            Ok(Some(Outcome::Slice(slice)))
+        }
+        Item::Move {
+            guest,
+            page,
+            kind,
+            node,
+            ..
+        } => {
+            let job = MoveJob {
+                guest,
+                page,
+                kind,
+                node,
+            };
+            ask_job(rt, alloc, cells, token, resources, job)?;
+            Ok(Some(Outcome::Asked))
+        }
+        Item::Fail { .. } => unreachable!(),
+    }
 }
 
 /// Adds an outcome, if there is one.

@@ -2,7 +2,7 @@
 ghost use Rattle.std.specs.Prelude.{◌≡◌, OnOk, IfOk};
 ghost use Rattle.std.specs.Bool.{OnTrue};
 ghost use Rattle.guest_core.specs.PacketCalls.{KeepsEnds};
-ghost use Rattle.guest_core.specs.GuestView.{shared_by};
+ghost use Rattle.guest_core.specs.GuestView.{AreOf, shared_by};
 ghost use Rattle.guest_lock.specs.Guests.{GuestsFrom};
 ghost use Rattle.run_workers.specs.Draining.{HasNone, HasAll, Receives, AreKept, AreOthers, AreDrained};
 
@@ -50,7 +50,7 @@ fn has_everything<R: Wait>(
     has_all(rt, guest, after, resources)
 }
 
-/// Lets packets come to a guest until one was received, or none is left.
+/// Lets packets come to a guest until one was received, or none is left; the moves that are in its way begin and end before.
 fn settle<R: Wait>(
     rt: &R,
     alloc: Global,
@@ -59,7 +59,7 @@ fn settle<R: Wait>(
     after: &mut [Guest],
     resources: &Resources,
 ) -> Result<(), AllocError>
-    requires wires { guest.old.wires ≡ resources.now.wires.now }
+    requires shared { AreOf (shared_by resources.now) guest.old }
     requires before { AreOthers (record { table = resources.now.table.now; wires = resources.now.wires.now }) guest.old before.old }
     requires after { AreOthers (record { table = resources.now.table.now; wires = resources.now.wires.now }) guest.old after.old }
     ensures receives { OnOk result (Receives guest.old guest.new) }
@@ -73,6 +73,7 @@ fn settle<R: Wait>(
         guest.make_room()?;
         match guest.packet_in(rt, alloc, resources)? {
             Packeted::Delivered | Packeted::NotArmed => return Ok(()),
+            Packeted::Begun(_) | Packeted::Finished(_) | Packeted::Waits(..) => {}
             Packeted::NoneInHand => {
                 if has_everything(rt, guest, before, after, resources) {
                     return Ok(());

@@ -2,6 +2,7 @@
 ghost use Rattle.std.specs.Prelude.{◌≡◌, ◌≢◌, ◌≤◌, ℕ, None, IfOk};
 ghost use Rattle.guest_core.specs.GuestView.{shared_by};
 ghost use Rattle.guest_lock.specs.declared.burst.Stop.TheVariants.{Paused};
+ghost use Rattle.guest_lock.specs.Counted.{goes_on, resumed};
 ghost use Rattle.guest_lock.specs.Fits.{Fits, HasVcpu};
 ghost use Rattle.guest_lock.specs.Told.{shown, Bursts};
 ghost use Rattle.plan_due.specs.Slices.{IsCause};
@@ -24,7 +25,24 @@ pub(crate) struct Job {
     pub(crate) steps: u64,
 }
 
-/// Makes turns of what is loaded on the token's processor until there were so many steps, or one was neither a step nor a refill.
+/// Waits where a turn has to, and goes on then.
+fn rested<N: Starts, const G: u8, R: Wait>(
+    rt: &R,
+    cell: &GuestCell<N, G>,
+    token: &ProcToken,
+    made: Burst,
+) -> Burst
+    requires { Fits N.starts N.board token.now }
+    ensures { result ≡ resumed made }
+{
+    if let Stop::Waits(page) = made.stop {
+        cell.wait_turn(rt, token, page);
+    }
+    made.resume()
+}
+
+/// Makes turns of what is loaded on the token's processor, and waits where one has to, until there were so many steps, the virtual
+/// processor has halted, the guest has ended, or memory was wanting.
 fn make_turns<N: Starts, const G: u8, R: Wait, T: Gate>(
     rt: &R,
     alloc: Global,
@@ -40,6 +58,7 @@ fn make_turns<N: Starts, const G: u8, R: Wait, T: Gate>(
     ensures told { Bursts token.old G result token.new }
     ensures few { result.steps ≤ job.steps }
     ensures all { result.stop ≡ Paused → result.steps ≡ job.steps }
+    ensures going { result.stop ≡ goes_on result.stop }
 {
     bursts_join();
     let mut made = Burst::new();
@@ -62,7 +81,7 @@ fn make_turns<N: Starts, const G: u8, R: Wait, T: Gate>(
             at,
             job.steps - made.steps,
         );
-        made = made.then(burst);
+        made = rested(rt, cell, token, made.then(burst));
     }
     unreachable!()
 }
@@ -71,13 +90,14 @@ fn make_turns<N: Starts, const G: u8, R: Wait, T: Gate>(
 fn cut_of(burst: Burst, planned: u64) -> Result<Cut, AllocError>
     requires all { burst.stop ≡ Paused → burst.steps ≡ planned }
     requires few { burst.steps ≤ planned }
+    requires going { burst.stop ≡ goes_on burst.stop }
     ensures { IfOk result (λ cut. (cell : ℕ) → IsCause cell planned burst.steps (as_told burst.stop) cut) }
 {
     if burst.steps == planned {
         return Ok(Cut::Whole);
     }
     match burst.stop {
-        Stop::Paused => unreachable!(),
+        Stop::Paused | Stop::Waits(_) => unreachable!(),
         Stop::VcpuHalted => Ok(Cut::VcpuHalted),
         Stop::GuestEnded(end) => Ok(Cut::GuestEnded(end)),
         Stop::Memory => Err(AllocError),

@@ -1,10 +1,10 @@
 -- A description that asks for nothing that isn't built.
 use Rattle.std.specs.Prelude.{◌≡◌, true, All}
 use Rattle.machine_desc.specs.Described.{Described}
-use Rattle.unbuilt_keys.specs.Unbuilt.{is_run}
+use Rattle.unbuilt_keys.specs.Unbuilt.{is_built}
 
 pub record IsBuilt (d : Described) : Type 0 where
   pub no_cache : d.cache ≡ 0
   pub no_migration : d.policy.migrate ≡ 0
   pub no_replication : d.policy.replicate ≡ 0
-  pub runs : All (λ item. is_run item ≡ true) d.items
+  pub built : All (λ item. is_built item ≡ true) d.items

@@ -1,26 +1,44 @@
 //! The first key that isn't built.
 ghost use Rattle.std.specs.Prelude.{◌≡◌, [], ◌∷◌, position, not};
 ghost use Rattle.machine_desc.specs.Described.{described_seen};
-ghost use Rattle.unbuilt_keys.specs.Unbuilt.{unbuilt as first_unbuilt, first_key, policy_keys, work_keys, is_run as runs};
+ghost use Rattle.unbuilt_keys.specs.Unbuilt.{unbuilt as first_unbuilt, first_key, policy_keys, work_keys, has_built_kind as kind_is_built, has_built_act as act_is_built};
 
 use crate::UnbuiltKey;
-use base_words::Policy;
+use base_words::{MoveKind, Policy};
 use machine_desc::{Item, Machine, Plan};
 
-fn is_run(item: &Item) -> bool
-    ensures { result ≡ runs item.now }
+/// Whether an item is no move but a migration.
+fn has_built_kind(item: &Item) -> bool
+    ensures { result ≡ kind_is_built item.now }
 {
     match item {
-        Item::Run { .. } => true,
-        _ => false,
+        Item::Move { kind, .. } => *kind == MoveKind::Migrate,
+        Item::Run { .. } | Item::Fail { .. } => true,
     }
 }
 
-/// The first item that is no run.
-fn first_other(items: &[Item]) -> Option<usize>
-    ensures { result ≡ position (λ item. not (runs item)) items.now }
+/// Whether an item is no failure.
+fn has_built_act(item: &Item) -> bool
+    ensures { result ≡ act_is_built item.now }
 {
-    items.iter().position(|item| !is_run(item))
+    match item {
+        Item::Run { .. } | Item::Move { .. } => true,
+        Item::Fail { .. } => false,
+    }
+}
+
+/// The first move that is no migration.
+fn first_kind(items: &[Item]) -> Option<usize>
+    ensures { result ≡ position (λ item. not (kind_is_built item)) items.now }
+{
+    items.iter().position(|item| !has_built_kind(item))
+}
+
+/// The first failure.
+fn first_act(items: &[Item]) -> Option<usize>
+    ensures { result ≡ position (λ item. not (act_is_built item)) items.now }
+{
+    items.iter().position(|item| !has_built_act(item))
 }
 
 /// The first key of the policy that isn't built.
@@ -40,7 +58,10 @@ fn policy_key(policy: Policy) -> Option<UnbuiltKey>
 fn work_key(items: &[Item]) -> Option<UnbuiltKey>
     ensures { result ≡ first_key (work_keys items.now) }
 {
-    if let Some(item) = first_other(items) {
+    if let Some(item) = first_kind(items) {
+        return Some(UnbuiltKey::Kind(item));
+    }
+    if let Some(item) = first_act(items) {
         return Some(UnbuiltKey::Act(item));
     }
     None

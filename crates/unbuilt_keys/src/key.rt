@@ -9,6 +9,8 @@ pub enum UnbuiltKey {
     Migrate,
     /// Replication by the policy.
     Replicate,
-    /// Work that is no run.
+    /// A move that is no migration.
+    Kind(usize),
+    /// The failure of a cell.
     Act(usize),
 }

@@ -27,6 +27,14 @@ pub returns-clause-litmus_file : goal.returns-clause-litmus_file
 unfolding form_of clap_on_literals
 returns-clause-litmus_file c = refl
 
+pub returns-clause-asm_file : goal.returns-clause-asm_file
+unfolding form_of clap_on_literals
+returns-clause-asm_file c = refl
+
+pub returns-clause-asm_steps : goal.returns-clause-asm_steps
+unfolding form_of clap_on_literals
+returns-clause-asm_steps c = refl
+
 pub returns-clause-litmus_steps : goal.returns-clause-litmus_steps
 unfolding form_of clap_on_literals
 returns-clause-litmus_steps c = refl

@@ -17,6 +17,22 @@ returns-clause-rows c = record {
   alive = c.goes_on_alive.ensures.loaded;
 }
 
+pub returns-clause-moves : goal.returns-clause-moves
+returns-clause-moves c = record {
+  loads = c.moves_counted.ensures.loads;
+  unloads = c.moves_counted.ensures.unloads;
+  steps = c.moves_counted.ensures.steps;
+  refills = c.moves_counted.ensures.refills;
+  emulates = c.moves_counted.ensures.emulates;
+  begins = c.moves_counted.ensures.begins;
+  acks = c.moves_counted.ensures.acks;
+  finishes = c.moves_counted.ensures.finishes;
+  comes_to_hand = c.moves_counted.ensures.comes_to_hand;
+  receives = c.moves_counted.ensures.receives;
+  skips = c.moves_counted.ensures.skips;
+  ends = c.moves_counted.ensures.ends;
+}
+
 pub returns-clause-runs : goal.returns-clause-runs
 returns-clause-runs c = record {
   live = λ b journal t run. c.isolation_from.ensures.uses_live (start b) t journal (c.start_holds.ensures.uses_live b) run;

@@ -1,13 +1,37 @@
--- No frame is counted any more.
-use Rattle.std.proofs.Common.{sym, subst}
+-- Nothing is due any more of pages that moved, every frame is given up, and no frame is counted any more.
+use Rattle.std.proofs.Common.{◌≡◌, [], length, map, sym, ap, ◌∙◌, subst}
 use Rattle.cell_depend.specs.Counters.{UsesState}
-use Rattle.guest_course.specs.CourseView.{state_of}
+use Rattle.pmap_table.specs.GivingUp.{held}
+use Rattle.guest_course.specs.CourseView.{surroundings, state_of, due_of}
+use Rattle.guest_course.specs.EndCalls.{DropsDues, GaveUp}
+use Rattle.guest_course.specs.declared.course.Course.{Course}
+use Rattle.guest_core.specs.Holding.{HoldsCopies}
 use Rattle.guest_core.specs.Using.{AreUses}
+use Rattle.guest_core.proofs.CopyLemmas.{copies-held}
 use Rattle.guest_core.proofs.UsingProofs.{uses-end}
 use Rattle.guest_core.proofs.releasing.close.Goals as goal
+
+gave-up : (c m d : Course) → DropsDues c m → d.pmap.pages ≡ [] → d.pmap.spares ≡ [] → ◌≡◌ {A = Course} d (record m { pmap = d.pmap }) → GaveUp c d
+gave-up c m d drops pages spares rest =
+    let due = ap (λ (x : Course). x.due) rest in
+    record {
+      pages = pages;
+      spares = spares;
+      same = rest ∙ ap (λ (x : Course). record x { pmap = d.pmap }) drops.same ∙ (λ i. record c { pmap = d.pmap; due = sym due i });
+      long = ap (λ (x : Course). length x.due.items) rest ∙ drops.long;
+      dues = ap (λ (x : Course). map due_of x.due.items) rest ∙ drops.dues;
+    }
+
+pub release_all-requires-clause-holding : goal.release_all-requires-clause-holding
+release_all-requires-clause-holding c =
+    let v = c.args.holder.now.view in
+    subst (λ (x : Course). HoldsCopies (surroundings x.around) (held x.pmap) v) (sym c.drop_dues.ensures.same) (copies-held (state_of c.args.course.now) v c.requires.holding)
 
 pub returns-clause-used : goal.returns-clause-used
 returns-clause-used c =
     let t = state_of c.end.new.self in
-    let ends = c.end.ensures.ends c.args.course.now c.requires.sound c.requires.may c.release_all.ensures.gave in
-    subst (λ (u : UsesState). AreUses t u) (sym c.drop_frames.ensures) (uses-end (state_of c.args.course.now) t c.args.end c.args.uses.now c.all_frames_given_back.ensures ends c.requires.used)
+    let old = c.args.course.now in
+    let r = c.release_all.ensures in
+    let gave = gave-up old c.drop_dues.new.self c.release_all.new.course c.drop_dues.ensures r.pages r.spares r.rest in
+    let ends = c.end.ensures.ends old c.requires.sound c.requires.may gave in
+    subst (λ (u : UsesState). AreUses t u) (sym c.drop_frames.ensures) (uses-end (state_of old) t c.args.end c.args.uses.now c.all_frames_given_back.ensures ends c.requires.used)

@@ -1,4 +1,4 @@
-use Rattle.guest_lock.proofs.BurstLemmas.{Bursts-none, Bursts-join, shown-burst}
+use Rattle.guest_lock.proofs.BurstLemmas.{Bursts-none, Bursts-join, Bursts-waited, shown-burst}
 use Rattle.guest_lock.proofs.laws.bursts_join.Goals as goal
 
 pub returns-clause-none : goal.returns-clause-none
@@ -9,3 +9,6 @@ returns-clause-joined c = Bursts-join
 
 pub returns-clause-shown : goal.returns-clause-shown
 returns-clause-shown c = λ old new g burst bursts. shown-burst old g burst new bursts
+
+pub returns-clause-waited : goal.returns-clause-waited
+returns-clause-waited c = Bursts-waited

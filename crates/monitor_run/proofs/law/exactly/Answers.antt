@@ -1,4 +1,4 @@
-use Rattle.monitor_run.proofs.Statuses.{words_status, only_words_status, told_status, absent_status, only_read_status, only_write_status, only_litmus_status}
+use Rattle.monitor_run.proofs.Statuses.{words_status, only_words_status, told_status, absent_status, only_read_status, only_write_status, only_asm_status, only_litmus_status}
 use Rattle.monitor_run.proofs.law.exactly.Goals as goal
 
 pub returns-clause-words : goal.returns-clause-words
@@ -18,6 +18,9 @@ returns-clause-only_read c = only_read_status
 
 pub returns-clause-only_write : goal.returns-clause-only_write
 returns-clause-only_write c = only_write_status
+
+pub returns-clause-only_asm : goal.returns-clause-only_asm
+returns-clause-only_asm c = λ w a b x y out status answers. only_asm_status w a b x y out status answers (λ files line cause. (c.told.ensures.lines w files line cause).0)
 
 pub returns-clause-only_litmus : goal.returns-clause-only_litmus
 returns-clause-only_litmus c = only_litmus_status

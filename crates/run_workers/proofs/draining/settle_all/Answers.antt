@@ -1,20 +1,20 @@
 -- The next guest is settled, with the guests before it and behind it as others.
 use Rattle.std.proofs.Common.{rules, ◌≡◌, ◌<◌, ◌++◌, ◌∷◌, [], List, length, sym, ap, ◌∙◌, subst}
 use Rattle.std.proofs.lemmas.List.{append_assoc, with_items_is}
-use Rattle.guest_core.specs.GuestView.{Monitored, Shared, shared_by}
+use Rattle.guest_core.specs.GuestView.{Monitored, Shared, AreOf, shared_by}
 use Rattle.guest_lock.specs.Guests.{GuestsFrom}
 use Rattle.run_workers.specs.Draining.{AreKept, AreOthers}
-use Rattle.run_workers.proofs.SettledLemmas.{AreSettled, from-next, others-before, others-after, next-wires, settled-more, split}
+use Rattle.run_workers.proofs.SettledLemmas.{AreSettled, from-next, others-before, others-after, next-shared, settled-more, split}
 use Rattle.run_workers.proofs.draining.settle_all.Goals as goal
 
-pub settle-requires-clause-wires : goal.settle-requires-clause-wires
-settle-requires-clause-wires g c =
+pub settle-requires-clause-shared : goal.settle-requires-clause-shared
+settle-requires-clause-shared g c =
     let i = c.loop-alloc.invariant in
     let done = c.loop-alloc.done.items in
     let some : 0 < length c.loop-alloc.rest.items = search rules in
     let rest : c.loop-alloc.rest.items ≡ c.remove-guest.result ∷ c.remove-guest.new.self.items = split c.loop-alloc.rest.items c.remove-guest.result c.remove-guest.result c.remove-guest.new.self.items some c.remove-guest.ensures.value c.remove-guest.ensures.items in
     let from = subst (λ (l : List Monitored). GuestsFrom g.N.Starts.starts g.N.Starts.board g.N.Starts.shared 0 (done ++ l)) rest i.0 in
-    next-wires g.N.Starts.starts g.N.Starts.board g.N.Starts.shared done c.remove-guest.result c.remove-guest.new.self.items from ∙ ap (λ (s : Shared). s.wires) (sym c.requires.shared)
+    subst (λ (s : Shared). AreOf s c.remove-guest.result) (sym c.requires.shared) (next-shared g.N.Starts.starts g.N.Starts.board g.N.Starts.shared done c.remove-guest.result c.remove-guest.new.self.items from)
 
 pub settle-requires-clause-before : goal.settle-requires-clause-before
 settle-requires-clause-before g c =

@@ -1,11 +1,10 @@
 use Rattle.std.proofs.Common.{rules, sym, ap, ◌∙◌, subst}
-use Rattle.base_words.specs.declared.events.End.TheVariants.{Budget}
-use Rattle.isolation_law.specs.EndRows.{Ends}
 use Rattle.guest_core.specs.GuestView.{Monitored, IsSameGuest}
+use Rattle.guest_core.specs.MoveCalls.{EndsByPlan}
 use Rattle.guest_core.specs.Wiring.{IsWired, Posted}
 use Rattle.wire_queue.specs.declared.lists.PassList.{PassList}
 use Rattle.run_workers.specs.Ending.{EndsSo}
-use Rattle.run_workers.proofs.EndLemmas.{has-left, ends-by-plan, ended-before}
+use Rattle.run_workers.proofs.EndLemmas.{has-left, none-of, ends-by-plan, ended-before}
 use Rattle.run_workers.proofs.ending.end.Goals.{then-is_none+in_ok-make_room, else-is_none}
 use Rattle.run_workers.proofs.ending.end.Goals as goal
 
@@ -18,8 +17,8 @@ returns-clause-left c =
     let is = c.into_record-record.ensures in
     let ends : EndsSo c.args.guest c.if-is_none.guest.state c.into_record-record.result.2 = elim c.if-is_none.branch [
       | then-is_none+in_ok-make_room w ↦ ends-by-plan c.args.guest w.make_room.new.self c.if-is_none.guest c.into_record-record.result.2
-          (is.passes ∙ ap (λ (m : Monitored). m.passes) w.guest-is ∙ w.end_budget.ensures.passes ∙ w.make_room.ensures.passes) w.make_room.ensures.stays.state
-          (subst (λ (m : Monitored). Ends w.make_room.new.self.state Budget m.state) (sym w.guest-is) w.end_budget.ensures.row)
+          (is.passes ∙ ap (λ (m : Monitored). m.passes) w.guest-is ∙ w.end_budget.ensures.passes ∙ w.make_room.ensures.passes) w.make_room.ensures.stays.state (sym c.end.ensures.end ∙ none-of c.end.result w.if-is_none.ensures)
+          (subst (λ (m : Monitored). EndsByPlan w.make_room.new.self.state m.state) (sym w.guest-is) w.end_budget.ensures.ended)
       | else-is_none w ↦ subst (λ (m : Monitored). EndsSo c.args.guest m.state c.into_record-record.result.2) (sym w.guest-is)
           (ended-before c.args.guest c.into_record-record.result.2 (is.passes ∙ ap (λ (m : Monitored). m.passes) w.guest-is) c.requires.goes_on)
     ] in

@@ -8,7 +8,7 @@ use Rattle.run_workers.proofs.running.finish.Goals as goal
 pub run_named-requires-clause-may : goal.run_named-requires-clause-may
 run_named-requires-clause-may g c κs within =
     let d = described_seen c.args.machine.now c.args.plan.now in
-    may-run d c.args.sources c.in_ok-booted.booted.guests.items c.in_ok-booted.booted.tokens (record { table = c.in_ok-booted.booted.table; wires = c.in_ok-booted.booted.wires }) c.in_ok-booted.booted.holder c.requires.described (c.built.ensures d c.requires.built) (sources-count c.args.machine.now.guests c.args.sources c.requires.sources) c.in_ok-booted.ensures.booted
+    may-run d c.args.sources c.in_ok-booted.booted.guests.items c.in_ok-booted.booted.tokens (record { table = c.in_ok-booted.booted.table; wires = c.in_ok-booted.booted.wires }) c.in_ok-booted.booted.holder c.requires.described (c.built.ensures d c.requires.built) c.requires.sources c.in_ok-booted.ensures.booted
 
 pub returns-clause-run : goal.returns-clause-run
 returns-clause-run g c =

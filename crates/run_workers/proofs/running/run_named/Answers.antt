@@ -35,7 +35,7 @@ all_work-requires-clause-ready g c κs within = λ i d l.
     let board = board_of_tokens c.args.tokens in
     let was = c.deref_mut.result.now in
     let tokens : map token_of was ≡ c.args.tokens = search rules in
-    let is = ready c.args.guests.items board c.args.tokens was may.tokens_are may.processors tokens i d l in
+    let is = ready c.args.guests.items board c.args.tokens was may.tokens_are may.processors may.few_tokens tokens i d l in
     subst (λ b. IsReady g.N.Starts.starts b (slice_index_or was i d)) (sym c.requires.board) (subst (λ (s : List Boot). IsReady s board (slice_index_or was i d)) (sym c.requires.starts) is)
 
 pub close_notes-requires : goal.close_notes-requires

@@ -18,7 +18,7 @@ make_turns-burst-requires-after_bounds g c κs within =
     let is = loaded-shown c.tokens_grow.ensures.own old c.load.new.token g.row.G p c.args.job.vcpu load in (
       omega arith,
       (
-        subst (Fits g.N.Starts.starts g.N.Starts.board) (sym load) (record { board_is = c.requires.token.board_is; is_processor = c.requires.token.is_processor }),
+        subst (Fits g.N.Starts.starts g.N.Starts.board) (sym load) (record { board_is = c.requires.token.board_is; few = c.requires.token.few; is_processor = c.requires.token.is_processor }),
         (λ e. (let both : Some c.args.job.vcpu.0 ≡ None = sym is ∙ e in absurd cc), c.requires.shared),
       ),
     )
@@ -31,10 +31,10 @@ unload-requires g c =
     let bursts = c.make_turns-burst.ensures.told in
     let is = loaded-shown c.tokens_grow.ensures.own old c.load.new.token g.row.G p c.args.job.vcpu load in
     let same : shown g.row.G c.make_turns-burst.new.token ≡ shown g.row.G c.load.new.token = c.bursts_join.ensures.shown c.load.new.token c.make_turns-burst.new.token g.row.G c.make_turns-burst.result bursts in
-    let fits : Fits g.N.Starts.starts g.N.Starts.board c.load.new.token = subst (λ (t : Token). Fits g.N.Starts.starts g.N.Starts.board t) (sym load) (record { board_is = c.requires.token.board_is; is_processor = c.requires.token.is_processor }) in (
+    let fits : Fits g.N.Starts.starts g.N.Starts.board c.load.new.token = subst (λ (t : Token). Fits g.N.Starts.starts g.N.Starts.board t) (sym load) (record { board_is = c.requires.token.board_is; few = c.requires.token.few; is_processor = c.requires.token.is_processor }) in (
       omega arith,
       (
-        subst (Fits g.N.Starts.starts g.N.Starts.board) (sym bursts.token) (record { board_is = fits.board_is; is_processor = fits.is_processor }),
+        subst (Fits g.N.Starts.starts g.N.Starts.board) (sym bursts.token) (record { board_is = fits.board_is; few = fits.few; is_processor = fits.is_processor }),
         λ e. (let both : Some c.args.job.vcpu.0 ≡ None = sym is ∙ sym same ∙ e in absurd cc),
       ),
     )

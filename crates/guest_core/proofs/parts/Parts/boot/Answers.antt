@@ -6,14 +6,14 @@ use Rattle.base_words.specs.declared.events.End.{End}
 use Rattle.base_words.specs.declared.ids.CellId.{CellId}
 use Rattle.base_words.specs.declared.frame.Frame.{Frame}
 use Rattle.isolation_law.specs.GuestState.{GuestState}
-use Rattle.isolation_law.specs.Start.{Boot, start as started}
+use Rattle.isolation_law.specs.Start.{Boot, IsBoot, start as started}
 use Rattle.guest_course.specs.BootCalls.{AreWhole, MayBoot, given_blocks, boot_of}
 use Rattle.guest_course.specs.CourseView.{state_of, surroundings}
-use Rattle.guest_core.specs.GuestView.{loaded_count}
+use Rattle.guest_core.specs.GuestView.{entries_due}
 use Rattle.guest_core.specs.Holding.{IsHolding, frames_around}
 use Rattle.guest_core.specs.Kept.{Kept}
 use Rattle.guest_core.specs.Starting.{booted_with}
-use Rattle.guest_core.proofs.BootLemmas.{same-boot, may-boot, no-loads, kept-start}
+use Rattle.guest_core.proofs.BootLemmas.{same-boot, may-boot, is-boot, nothing-due, kept-start}
 use Rattle.guest_core.proofs.EnterProofs.{of-these}
 use Rattle.guest_core.proofs.HoldingLemmas.{holding-start}
 use Rattle.guest_core.proofs.KeptProofs.{IsOff}
@@ -56,10 +56,12 @@ returns-clause-kept c =
     let start = c.start.view_is ∙ c.of-start.ensures in
     let state = state-is c in
     let kept = kept-start b (c.run_grows.ensures.none (started b)) in
-    let none : loaded_count (state_of c.in_ok-boot.field-0) ≡ 0 = ap loaded_count state ∙ no-loads b in
+    let none : entries_due (state_of c.in_ok-boot.field-0) ≡ 0 = ap entries_due state ∙ nothing-due b in
+    let made = c.in_ok-frames.ensures in
     record {
       sound = c.in_ok-boot.ensures.sound;
       seat = sym c.number-number.ensures;
+      booted = subst IsBoot (sym start) (is-boot c.args.around c.args.image c.args.vcpus c.args.frames c.args.disk c.args.input.now c.requires.may (subst AreWhole made.filled made.whole));
       kept = subst (λ (x : Boot). Kept x (state_of c.in_ok-boot.field-0) c.new.result.entries c.args.seat.notes) (sym start)
           (subst (λ (s : GuestState). Kept b s c.new.result.entries c.args.seat.notes) (sym state)
           (of-these b (started b) [] _ [] _ (ap (λ x. x.entries) c.new.ensures) c.requires.no_notes kept));
@@ -71,7 +73,7 @@ returns-clause-kept c =
       used = subst (λ (g : GuestState). AreUses g c.in_ok-uses.uses) (sym state) (uses-start b c.args.frames c.args.around.site.shape c.in_ok-uses.uses refl (record { frames = refl; cells = refl }) c.in_ok-uses.ensures.cells c.in_ok-uses.ensures.counts);
       at_home = subst (λ (x : Boot). x.around.home < length x.around.nodes) (sym start) (subst (λ (n : ℕ). c.args.around.home.0 < n) (sym (length-map c.args.around.site.shape.cells (λ (x : CellId). x.0) ∙ c.args.around.site.shape.has_cells)) c.requires.may.at_home);
       no_policy = subst (λ (x : Boot). IsOff x.around.policy) (sym start) c.requires.may.no_policy;
-      unloads = omega (arith, none);
+      owed = omega (arith, none);
       few_guests = subst (λ (x : Boot). length x.around.homes ≤ 8) (sym start) (subst (λ (n : ℕ). n ≤ 8) (sym (length-map c.args.around.site.homes (λ (x : CellId). x.0))) c.requires.may.few_guests);
       wired = subst (λ (x : Boot). IsWired c.of.result.wires.value c.of.result.passes x.around) (sym start) (subst (λ (l : PassList). IsWired c.of.result.wires.value l (from c).around) (sym c.of.ensures.passes) (subst (λ (m : Made). IsWired m c.args.passes (from c).around) (sym c.of.ensures.wires) c.requires.wired));
       posted = subst (λ (s : GuestState). Posted s c.new.result.entries c.of.result.passes) (sym state) (subst (λ (j : List Event). Posted (started b) j c.of.result.passes) (sym (ap (λ x. x.entries) c.new.ensures)) (subst (Posted (started b) []) (sym c.of.ensures.passes) (posted-start b c.args.passes c.requires.unused)));

@@ -16,13 +16,14 @@ asked : (old : Parts) (new : Wiring) (wires : Made) → IsKept old → old.wirin
 asked old new wires k of list same still = record {
   sound = k.sound;
   seat = k.seat;
+  booted = k.booted;
   kept = k.kept;
   goes_on = k.goes_on;
   frames = k.frames;
   used = k.used;
   at_home = k.at_home;
   no_policy = k.no_policy;
-  unloads = k.unloads;
+  owed = k.owed;
   few_guests = k.few_guests;
   wired = subst (λ (m : Made). IsWired m new.passes old.start.around) (sym (ap (λ x. x.value) still))
       (wired-again old.wiring.wires.value old.wiring.passes new.passes old.start.around k.wired (subst (λ (m : Made). IsListOf m new.passes) (sym of) list) same.guest);

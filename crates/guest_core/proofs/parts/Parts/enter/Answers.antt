@@ -1,5 +1,5 @@
 -- A step that the processor made by itself is its row, and the guest is kept; a trap has changed nothing.
-use Rattle.std.proofs.Common.{rules, ◌≡◌, ℕ, ◌<◌, ◌++◌, [], ◌∷◌, List, length, refl, sym, ap, ◌∙◌, subst, arith}
+use Rattle.std.proofs.Common.{◌≡◌, ℕ, ◌<◌, ◌++◌, [], ◌∷◌, List, length, refl, sym, ap, ◌∙◌, subst, arith}
 use Rattle.base_words.specs.declared.events.Event.{Event}
 use Rattle.base_words.specs.declared.events.Event.TheVariants.{Direct}
 use Rattle.base_words.specs.declared.ids.ProcId.{ProcId}
@@ -11,9 +11,9 @@ use Rattle.guest_course.specs.StepCalls.{StepsDirect}
 use Rattle.guest_core.specs.GuestCalls.{processor_of}
 use Rattle.guest_core.specs.Wiring.{Posted}
 use Rattle.guest_core.proofs.HoldingLemmas.{frames-stay}
-use Rattle.guest_core.proofs.KeptProofs.{as-many}
+use Rattle.guest_core.proofs.KeptProofs.{direct-due}
 use Rattle.guest_core.proofs.EnterProofs.{kept-direct, of-these, one-row}
-use Rattle.guest_core.proofs.RoomLemmas.{two-entries}
+use Rattle.guest_core.proofs.RoomLemmas.{two-entries, KeepsCalls, as-used, room-used}
 use Rattle.guest_core.proofs.UsingProofs.{uses-row}
 use Rattle.guest_core.proofs.WiringProofs.{posted-same, quiet-one}
 use Rattle.guest_core.proofs.parts.Parts.enter.Goals as goal
@@ -33,7 +33,7 @@ returns-in-Direct-clause-kept g c =
     let did : StepsDirect s q.0 v.0 m c.in-Direct.access = subst (λ (n : ℕ). StepsDirect s n v.0 m c.in-Direct.access) c.number-processor.ensures c.in-Direct.ensures.executes in
     let on : GoesOn m = c.step.ensures.goes_on in
     let kept = kept-direct w c.laws.ensures.runs old.start s m old.journal.entries old.seat.notes q v k.no_policy k.kept there did.row in
-    let loads = as-many w s m (Direct q v) did.row (λ r. refl) in
+    let due = direct-due w c.laws.ensures.moves s m q v did.row in
     let room = two-entries _ _ _ c.requires.room in
     let around = w.around s m (Direct q v) did.row in
     let journal = c.push_direct.ensures.entries ∙ ap (λ (p : ProcId). old.journal.entries ++ Direct p v ∷ []) same in
@@ -42,13 +42,14 @@ returns-in-Direct-clause-kept g c =
     record {
       sound = c.step.ensures.sound;
       seat = ap (λ (x : Seat). x.number) c.note.ensures.seat ∙ k.seat;
+      booted = k.booted;
       kept = of-these old.start m _ _ _ _ journal (ap (λ (x : Seat). x.notes) c.note.ensures.seat ∙ ap (λ (p : ProcId). old.seat.notes ++ sided q.0 (Made (Direct p v)) ∷ []) same) kept;
       goes_on = λ e. on;
       frames = frames-stay s m _ (c.exchanges.ensures.steps s m q.0 v.0 did.row) around (on.not_ended ∙ sym did.row.goes_on.not_ended) k.frames;
       used = uses-row w s m (Direct q v) old.uses did.row (c.exchanges.ensures.steps s m q.0 v.0 did.row) (λ r. refl) k.used;
       at_home = k.at_home;
       no_policy = k.no_policy;
-      unloads = omega (arith, loads, room, c.push_direct.ensures.room);
+      owed = omega (arith, due, room, c.push_direct.ensures.room);
       few_guests = k.few_guests;
       wired = k.wired;
       posted = subst (λ (j : List Event). Posted m j old.wiring.passes) (sym journal)
@@ -67,14 +68,16 @@ returns-in-Direct-clause-leaves g c =
     let v = c.args.vcpu in
     let same : c.number-processor.result ≡ q = ap (λ (n : ℕ). record { 0 = n }) c.number-processor.ensures in
     let did : StepsDirect s q.0 v.0 m c.in-Direct.access = subst (λ (n : ℕ). StepsDirect s n v.0 m c.in-Direct.access) c.number-processor.ensures c.in-Direct.ensures.executes in
-    let loads = as-many c.laws.ensures.rows s m (Direct q v) did.row (λ r. refl) in
+    let due = direct-due c.laws.ensures.rows c.laws.ensures.moves s m q v did.row in
+    let done = c.step.ensures in
+    let keeps : KeepsCalls old.course c.step.new.self = record { print_room = done.print_room; send_room = done.send_room; cells = done.cells; received = done.packets.received; begins = omega (arith, done.room); skips = done.skips } in
     record {
       learns = record {
         seat = ap (λ (x : Seat). x.notes) c.note.ensures.seat ∙ ap (λ (p : ProcId). old.seat.notes ++ sided token.number (Made (Direct p v)) ∷ []) same;
         token_is = c.note.ensures.token ∙ ap (λ (p : ProcId). record token { notes = token.notes ++ sided old.seat.number (Made (Direct p v)) ∷ [] }) same ∙ ap (λ (n : ℕ). record token { notes = token.notes ++ sided n (Made (Direct (processor_of token) v)) ∷ [] }) c.requires.kept.seat;
       };
       same = record { number = refl; start = refl; board = ap (λ (x : Seat). x.board) c.note.ensures.seat; table = refl; wires = refl; own = refl };
-      room = search rules;
+      room = room-used _ _ old.course c.step.new.self (as-used old.course c.step.new.self keeps) (omega (arith, due, c.push_direct.ensures.room));
     }
 
 pub returns-in-Direct-clause-turns : goal.returns-in-Direct-clause-turns
@@ -87,4 +90,4 @@ returns-in-Direct-clause-turns g c =
     let v = c.args.vcpu in
     let same : c.number-processor.result ≡ q = ap (λ (n : ℕ). record { 0 = n }) c.number-processor.ensures in
     let did : StepsDirect s q.0 v.0 m c.in-Direct.access = subst (λ (n : ℕ). StepsDirect s n v.0 m c.in-Direct.access) c.number-processor.ensures c.in-Direct.ensures.executes in
-    record { makes = record { makes = record { journal = c.push_direct.ensures.entries ∙ ap (λ (p : ProcId). old.journal.entries ++ Direct p v ∷ []) same; run = one-row s m (Direct q v) did.row }; passes = refl }; direct = did }
+    record { rest = c.requires.rest; makes = record { makes = record { journal = c.push_direct.ensures.entries ∙ ap (λ (p : ProcId). old.journal.entries ++ Direct p v ∷ []) same; run = one-row s m (Direct q v) did.row }; passes = refl }; direct = did }

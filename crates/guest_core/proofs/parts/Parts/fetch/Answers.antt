@@ -6,7 +6,7 @@ use Rattle.wire_queue.specs.Between.{Made}
 use Rattle.wire_queue.specs.PassLists.{IsListOf}
 use Rattle.guest_course.specs.CourseView.{hand_of, state_of}
 use Rattle.guest_course.specs.declared.course.Course.{Course}
-use Rattle.guest_core.specs.GuestView.{loaded_count}
+use Rattle.guest_core.specs.GuestView.{entries_due}
 use Rattle.guest_core.specs.Wiring.{IsWired}
 use Rattle.guest_core.proofs.HandProofs.{kept-comes, goes-comes, frames-come, wired-again}
 use Rattle.guest_core.proofs.UsingProofs.{uses-come}
@@ -29,13 +29,14 @@ returns-in-Some-clause-kept g c =
     record {
       sound = c.take_in_hand.ensures.sound;
       seat = k.seat;
+      booted = k.booted;
       kept = kept-comes c.run_grows.ensures.hand old.start s t old.journal.entries old.seat.notes k.kept comes;
       goes_on = λ on. goes-comes s t comes;
       frames = frames-come s t old.holder.view k.frames comes;
       used = uses-come s t old.uses k.used comes;
       at_home = k.at_home;
       no_policy = k.no_policy;
-      unloads = subst (λ (x : GuestState). loaded_count x ≤ old.journal.room) (sym comes.after) k.unloads;
+      owed = subst (λ (x : GuestState). entries_due x ≤ old.journal.room) (sym comes.after) k.owed;
       few_guests = k.few_guests;
       wired = subst (λ (m : Made). IsWired m c.next.new.self.passes old.start.around) (ap (λ x. x.value) (sym c.in-Some.ensures.wires)) again;
       posted = posted-comes w wires s t old.journal.entries old.wiring.passes c.next.new.self.passes c.in-Some.packet here k.posted comes held c.in-Some.ensures.taken;

@@ -9,9 +9,9 @@ use Rattle.isolation_law.specs.GuestState.{GuestState}
 use Rattle.guest_course.specs.CourseView.{state_of}
 use Rattle.guest_core.specs.Kept.{Kept}
 use Rattle.guest_core.proofs.HoldingLemmas.{frames-stay}
-use Rattle.guest_core.proofs.KeptProofs.{kept-one, kept-answer, load-leaves, one-more}
+use Rattle.guest_core.proofs.KeptProofs.{kept-one, kept-answer, load-leaves, load-due}
 use Rattle.guest_core.proofs.EnterProofs.{noted-kept}
-use Rattle.guest_core.proofs.RoomLemmas.{two-entries, less-room}
+use Rattle.guest_core.proofs.RoomLemmas.{two-entries, KeepsCalls, as-used, room-used}
 use Rattle.guest_core.specs.Wiring.{Posted}
 use Rattle.guest_core.proofs.WiringProofs.{posted-same, quiet-one, quiet-load}
 use Rattle.guest_core.proofs.parts.Parts.load_vcpu.Goals as goal
@@ -39,11 +39,12 @@ returns-clause-kept c =
     let row = c.load.ensures.loads in
     let v' = c.laws.ensures.takes in
     let kept = kept-one w c.laws.ensures.runs old.start s t old.journal.entries old.seat.notes (Load p v) n k.kept (load-leaves s t p v row k.kept.nothing_due) refl row.is_processor in
-    let more = one-more w s t p v row in
+    let due = load-due w c.laws.ensures.moves s t p v row in
     let room = two-entries _ _ _ c.requires.room in
     record {
       sound = c.load.ensures.sound;
       seat = ap (λ (x : Seat). x.number) c.note-2.ensures.seat ∙ k.seat;
+      booted = k.booted;
       kept = subst (λ (j : List Event). Kept old.start t j c.note-2.new.seat.notes) (sym c.push.ensures.entries)
           (subst (λ (l : List SidedNote). Kept old.start t (old.journal.entries ++ Load p v ∷ []) l) (sym (ap (λ (x : Seat). x.notes) c.note-2.ensures.seat ∙ ap (λ (side : ℕ). old.seat.notes ++ sided side (Made (Load p v)) ∷ []) (sym c.number-processor.ensures))) kept);
       goes_on = λ on. c.load.ensures.goes_on;
@@ -51,7 +52,7 @@ returns-clause-kept c =
       used = c.count_load.ensures v.0 t row;
       at_home = k.at_home;
       no_policy = k.no_policy;
-      unloads = omega (arith, more, room, c.push.ensures.room);
+      owed = omega (arith, due, room, c.push.ensures.room);
       few_guests = k.few_guests;
       wired = k.wired;
       posted = subst (λ (j : List Event). Posted t j old.wiring.passes) (sym c.push.ensures.entries) (posted-same v' s t old.journal.entries (Load p v ∷ []) old.wiring.passes k.posted (quiet-load s t p.0 v.0 row)
@@ -60,10 +61,14 @@ returns-clause-kept c =
 
 pub returns-clause-leaves : goal.returns-clause-leaves
 returns-clause-leaves c =
-    let more = one-more c.laws.ensures.rows (state_of c.args.self.now.course) (state_of c.load.new.self) c.number-processor.result c.args.vcpu c.load.ensures.loads in
-    let c' = c.load.ensures in
+    let before = c.args.self.now.course in
+    let after = c.load.new.self in
+    let p = c.number-processor.result in
+    let done = c.load.ensures in
+    let due = load-due c.laws.ensures.rows c.laws.ensures.moves (state_of before) (state_of after) p c.args.vcpu done.loads in
+    let keeps : KeepsCalls before after = record { print_room = done.print_room; send_room = done.send_room; cells = done.cells; received = done.packets.received; begins = omega (arith, done.room); skips = done.skips } in
     record {
       learns = record { seat = search rules; token_is = search rules };
       same = record { number = refl; start = refl; board = ap (λ (x : Seat). x.board) c.note-2.ensures.seat; table = refl; wires = refl; own = refl };
-      room = rw (c'.print_room, c'.send_room, c'.cells, c'.packets.received) (less-room _ _ _ _ _ _ (omega (arith, more, c.push.ensures.room)) (omega arith));
+      room = room-used _ _ before after (as-used before after keeps) (omega (arith, due, c.push.ensures.room));
     }

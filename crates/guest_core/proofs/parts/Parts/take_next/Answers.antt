@@ -1,31 +1,22 @@
--- A packet comes to hand, and is received.
-use Rattle.std.proofs.Common.{◌≡◌, ℕ, ⊎_elim, inl, [], ◌∷◌, ◌++◌, length, refl, ap, ◌∙◌, subst}
-use Rattle.base_words.specs.declared.events.Event.TheVariants.{PacketIn}
-use Rattle.isolation_law.specs.GuestState.{GuestState}
-use Rattle.isolation_law.specs.PacketRows.{ComesToHand, Receives}
-use Rattle.isolation_law.specs.Run.{Silent}
+-- A packet comes to hand, and then what is in hand is taken in.
+use Rattle.std.proofs.Common.{◌≡◌, ◌≢◌, true, false, Option, Some, None, is_some, option_map}
+use Rattle.wire_queue.specs.declared.packet.WirePacket.{WirePacket}
+use Rattle.guest_course.specs.CourseView.{hand_of}
 use Rattle.guest_core.specs.GuestView.{guest_of}
+use Rattle.guest_core.proofs.PacketLemmas.{then-takes}
 use Rattle.guest_core.proofs.parts.Parts.take_next.Goals as goal
 
-as-many-received : (s t : GuestState) → Silent s t → length t.received ≡ length s.received
-as-many-received s t silent = ⊎_elim (λ (e : t ≡ s). ap (λ (x : GuestState). length x.received) e) (λ (x : ComesToHand s t). ap (λ (y : GuestState). length y.received) x.after) silent
+-- an option that has something, seen otherwise, has something
+is-in-hand : (hand : Option WirePacket) → is_some hand ≡ true → option_map hand_of hand ≢ None
+is-in-hand None some = absurd (no some)
+  where
+    no : false ≡ true → ⊥
+    no e = cc
+is-in-hand (Some packet) some = none
+  where
+    none : Some (hand_of packet) ≡ None → ⊥
+    none e = cc
 
 pub returns-clause-takes : goal.returns-clause-takes
 returns-clause-takes g c =
-    let old = guest_of c.args.self.now in
-    let mid = guest_of c.fetch.new.self in
-    let new = guest_of c.take_in.new.self in
-    let f = c.fetch.ensures.fetches in
-    let r = c.in_ok-take_in.ensures.takes in
-    let count = as-many-received old.state mid.state f.silent in (
-      c.requires.armed,
-      record {
-        quiet = record { notes = r.quiet.notes ∙ f.quiet.notes; view = r.quiet.view ∙ f.quiet.view };
-        makes = record {
-          journal = r.journal ∙ (λ i. f.journal i ++ PacketIn (count i) ∷ []);
-          run = (mid.state, new.state, f.silent, inl (subst (λ (n : ℕ). Receives mid.state n new.state) count r.row), inl refl);
-        };
-        not_ended = ap (λ (x : GuestState). x.end) r.row.after ∙ r.row.delivered.goes_on.not_ended;
-        disarmed = r.disarmed;
-      },
-    )
+    then-takes (guest_of c.args.self.now) (guest_of c.fetch.new.self) (guest_of c.take_in.new.self) c.take_in.result c.requires.armed c.fetch.ensures.fetches (is-in-hand c.fetch.new.self.course.hand c.if-is_none.ensures) c.take_in.ensures.takes

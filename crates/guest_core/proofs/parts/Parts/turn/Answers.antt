@@ -33,14 +33,14 @@ returns-then-index-clause-kept g c =
     let k = c.requires.kept in
     let v : VcpuId = c.in-Some-loaded.vcpu in
     let n : SidedNote = sided c.args.token.now.number (Halted v) in
-    let there : v.0 < length s.vcpus = k.sound.loaded c.number.result.0 v.0 (sym c.in-Some-loaded.ensures) in
+    let there : v.0 < length s.vcpus = k.sound.loaded c.number-2.result.0 v.0 (sym c.in-Some-loaded.ensures) in
     let halted : (vcpu_of s v.0).halted ≡ true = ap (λ (x : Vcpu). x.halted) (get_or_default s.vcpus v.0 no_vcpu c.index.result.now there ∙ sym c.index.ensures) ∙ c.if-index.true in
     let kept = kept-answer c.laws.ensures.runs old.start s old.journal.entries old.seat.notes n k.kept (subst (λ (n : ℕ). c.args.token.now.number < n) (sym k.kept.processors) c.requires.may.notes.is_processor) tt halted in
     noted-kept old c.note-then-index.new.seat n k c.note-then-index.ensures.seat kept
 
 -- it is the virtual processor that is loaded
 loaded-is : (g : Over) (c : goal.After-enter g) → c.in-Some-loaded.vcpu ≡ loaded_on (guest_of c.args.self.now) c.args.token.now
-loaded-is g c = ap (λ l. record { 0 = unwrap_or l 0 }) (c.in-Some-loaded.ensures ∙ ap (λ (n : ℕ). (processor (state_of c.args.self.now.course) n).loaded) c.number.ensures)
+loaded-is g c = ap (λ l. record { 0 = unwrap_or l 0 }) (c.in-Some-loaded.ensures ∙ ap (λ (n : ℕ). (processor (state_of c.args.self.now.course) n).loaded) c.number-2.ensures)
 
 pub returns-clause-turns : goal.returns-clause-turns
 returns-clause-turns g c = subst (λ (v : VcpuId). Turns (guest_of c.args.self.now) (processor_of c.args.token.now) v (guest_of c.enter.new.self) c.enter.result) (loaded-is g c) c.enter.ensures.turns

@@ -1,82 +1,125 @@
--- What the guest grants on memory gets its half; all else stays.
-use Rattle.std.proofs.Common.{◌≡◌, None, Some, get_or, refl, sym, ap, ◌∙◌, subst}
-use Rattle.std.specs.Option.{option_map}
+-- What the guest grants on memory gets its half, unless the page has a move or needs one; all else stays.
+use Rattle.std.proofs.Common.{◌≡◌, true≢false, None, Option, Some, length, get_or, refl, sym, ap, ◌∙◌, subst}
+use Rattle.std.specs.Option.{option_map, is_some}
 use Rattle.base_words.specs.declared.events.Event.TheVariants.{Refill}
-use Rattle.private_machine.specs.TrapAccess.{missed_access}
-use Rattle.isolation_law.specs.GuestState.{processor}
+use Rattle.private_machine.specs.TrapAccess.{trapped_access, missed_access}
+use Rattle.pmap_table.specs.OpenMoves.{told}
+use Rattle.isolation_law.specs.GuestState.{page, processor, vcpu_of}
 use Rattle.isolation_law.specs.Phases.{all_halted}
 use Rattle.private_machine.specs.Vcpu.{no_vcpu}
 use Rattle.guest_course.specs.CourseView.{state_of}
+use Rattle.guest_course.specs.Granting.{is_miss as is_miss_of, Grants}
+use Rattle.guest_course.specs.declared.granting.Granted.{Granted}
 use Rattle.trap_emulate.specs.Requests.{wanted_of}
 use Rattle.guest_course.proofs.RebackLemmas.{sound-rebacked, loaded-elsewhere}
 use Rattle.guest_course.proofs.StepProofs.{goes-on}
-use Rattle.guest_course.proofs.RefillProofs.{access-is, missed-same, in-range, denied-missed, denied-other, stays-denied, refills}
+use Rattle.guest_course.proofs.TrapLemmas.{missed-if, not-missed}
+use Rattle.guest_course.proofs.RefillProofs.{access-is, accessed-same, in-range, denied-accessed, denied-none, stays-denied, refills, reaches-page, store-kept, rests-told}
 use Rattle.guest_course.proofs.course.Course.refill.Goals as goal
 
-pub missed-requires-clause-access : goal.missed-requires-clause-access
-missed-requires-clause-access c = access-is c.traps_tell.ensures (state_of c.args.self.now) c.args.processor.0 c.args.vcpu.0 c.args.cause c.requires.traps
+pub accessed-requires-clause-access : goal.accessed-requires-clause-access
+accessed-requires-clause-access c = access-is c.traps_tell.ensures (state_of c.args.self.now) c.args.processor.0 c.args.vcpu.0 c.args.cause c.requires.traps
 
 pub returns-in_default-clause-serves : goal.returns-in_default-clause-serves
 returns-in_default-clause-serves c =
     let s = state_of c.args.self.now in
     let x = c.requires.traps in
-    let going = c.requires.sound.going c.requires.may.goes_on.not_ended in
-    let none : missed_access x.trap ≡ None =
-    sym (missed-same c.traps_tell.ensures s c.args.processor.0 c.args.vcpu.0 c.args.cause x) ∙ sym c.missed.ensures.access ∙ ap (option_map wanted_of) c.in_default.is in
-    stays-denied s s c.args.processor.0 c.args.vcpu.0 c.args.cause x refl
-    (denied-other c.read_only_needs.ensures s c.args.processor.0 c.args.vcpu.0 x.trap going.coherent going.plain refl c.requires.may.runs.loaded x.traps none) refl
+    let none : trapped_access x.trap ≡ None =
+    sym (accessed-same c.traps_tell.ensures s c.args.processor.0 c.args.vcpu.0 c.args.cause refl x) ∙ sym c.accessed.ensures.access ∙ ap (option_map wanted_of) c.in_default.is in
+    stays-denied s s c.args.processor.0 c.args.vcpu.0 c.args.cause x refl (denied-none s c.args.processor.0 c.args.vcpu.0 c.args.cause x none) refl
 
 pub granted-requires-clause-in_range : goal.granted-requires-clause-in_range
 granted-requires-clause-in_range c =
     let s = state_of c.args.self.now in
     let x = c.requires.traps in
     in-range s c.args.processor.0 c.args.vcpu.0 c.args.cause x (wanted_of c.in-Some.access)
-    (sym (missed-same c.traps_tell.ensures s c.args.processor.0 c.args.vcpu.0 c.args.cause x) ∙ sym c.missed.ensures.access ∙ ap (option_map wanted_of) c.in-Some.is)
+    (sym (accessed-same c.traps_tell.ensures s c.args.processor.0 c.args.vcpu.0 c.args.cause refl x) ∙ sym c.accessed.ensures.access ∙ ap (option_map wanted_of) c.in-Some.is)
 
-pub returns-in-Some-granted-clause-serves : goal.returns-in-Some-granted-clause-serves
-returns-in-Some-granted-clause-serves c =
+pub returns-in_default-granted-clause-serves : goal.returns-in_default-granted-clause-serves
+returns-in_default-granted-clause-serves c =
     let s = state_of c.args.self.now in
     let x = c.requires.traps in
-    let going = c.requires.sound.going c.requires.may.goes_on.not_ended in
-    let misses : missed_access x.trap ≡ Some (wanted_of c.in-Some.access) =
-    sym (missed-same c.traps_tell.ensures s c.args.processor.0 c.args.vcpu.0 c.args.cause x) ∙ sym c.missed.ensures.access ∙ ap (option_map wanted_of) c.in-Some.is in
-    refills s (state_of c.fill.new.self) c.args.processor.0 c.args.vcpu.0 c.args.cause c.requires.may x (wanted_of c.in-Some.access) c.in-Some-granted.granted misses going.plain
+    let some : trapped_access x.trap ≡ Some (wanted_of c.in-Some.access) =
+    sym (accessed-same c.traps_tell.ensures s c.args.processor.0 c.args.vcpu.0 c.args.cause refl x) ∙ sym c.accessed.ensures.access ∙ ap (option_map wanted_of) c.in-Some.is in
+    let denied = subst (λ (g : Option Granted). Grants (vcpu_of s c.args.vcpu.0) (length s.pages) (wanted_of c.in-Some.access) g) c.in_default-granted.is c.granted.ensures in
+    stays-denied s s c.args.processor.0 c.args.vcpu.0 c.args.cause x refl (denied-accessed s c.args.processor.0 c.args.vcpu.0 c.args.cause x (wanted_of c.in-Some.access) some denied) refl
+
+pub returns-then-is_some-clause-serves : goal.returns-then-is_some-clause-serves
+returns-then-is_some-clause-serves c =
+    let s = state_of c.args.self.now in
+    let x = c.requires.traps in
+    let some : trapped_access x.trap ≡ Some (wanted_of c.in-Some.access) =
+    sym (accessed-same c.traps_tell.ensures s c.args.processor.0 c.args.vcpu.0 c.args.cause refl x) ∙ sym c.accessed.ensures.access ∙ ap (option_map wanted_of) c.in-Some.is in
+    record {
+      reaches = reaches-page s c.args.processor.0 c.args.vcpu.0 c.args.cause x (wanted_of c.in-Some.access) c.in-Some-granted.granted some c.in-Some-granted.ensures;
+      moves = λ none. true≢false (sym c.if-is_some.true ∙ c.is_some.ensures ∙ ap is_some (c.open_move.ensures ∙ ap (option_map told) none));
+      same = refl;
+    }
+
+pub returns-then-is_miss-clause-serves : goal.returns-then-is_miss-clause-serves
+returns-then-is_miss-clause-serves c =
+    let s = state_of c.args.self.now in
+    let x = c.requires.traps in
+    let some : trapped_access x.trap ≡ Some (wanted_of c.in-Some.access) =
+    sym (accessed-same c.traps_tell.ensures s c.args.processor.0 c.args.vcpu.0 c.args.cause refl x) ∙ sym c.accessed.ensures.access ∙ ap (option_map wanted_of) c.in-Some.is in
+    let missed : missed_access x.trap ≡ trapped_access x.trap = missed-if x.trap (ap is_miss_of x.told ∙ sym c.is_miss.ensures ∙ c.if-is_miss.true) in
+    let rests = rests-told (page s c.in-Some-granted.granted.page.0).move (ap is_some (sym c.open_move.ensures) ∙ sym c.is_some.ensures ∙ c.if-is_some.false) in
+    refills s (state_of c.fill.new.self) c.args.processor.0 c.args.vcpu.0 c.args.cause c.requires.may x (wanted_of c.in-Some.access) c.in-Some-granted.granted (missed ∙ some) rests
     c.in-Some-granted.ensures c.fill.ensures.filled
 
-pub returns-in-Some-granted-clause-sound : goal.returns-in-Some-granted-clause-sound
-returns-in-Some-granted-clause-sound c =
+pub returns-then-is_miss-clause-sound : goal.returns-then-is_miss-clause-sound
+returns-then-is_miss-clause-sound c =
     let old = c.args.self.now in
     let s = state_of old in
     let x = c.requires.traps in
     let going = c.requires.sound.going c.requires.may.goes_on.not_ended in
-    let misses : missed_access x.trap ≡ Some (wanted_of c.in-Some.access) =
-    sym (missed-same c.traps_tell.ensures s c.args.processor.0 c.args.vcpu.0 c.args.cause x) ∙ sym c.missed.ensures.access ∙ ap (option_map wanted_of) c.in-Some.is in
-    let row = refills s (state_of c.fill.new.self) c.args.processor.0 c.args.vcpu.0 c.args.cause c.requires.may x (wanted_of c.in-Some.access) c.in-Some-granted.granted misses going.plain
+    let some : trapped_access x.trap ≡ Some (wanted_of c.in-Some.access) =
+    sym (accessed-same c.traps_tell.ensures s c.args.processor.0 c.args.vcpu.0 c.args.cause refl x) ∙ sym c.accessed.ensures.access ∙ ap (option_map wanted_of) c.in-Some.is in
+    let missed : missed_access x.trap ≡ trapped_access x.trap = missed-if x.trap (ap is_miss_of x.told ∙ sym c.is_miss.ensures ∙ c.if-is_miss.true) in
+    let rests = rests-told (page s c.in-Some-granted.granted.page.0).move (ap is_some (sym c.open_move.ensures) ∙ sym c.is_some.ensures ∙ c.if-is_some.false) in
+    let row = refills s (state_of c.fill.new.self) c.args.processor.0 c.args.vcpu.0 c.args.cause c.requires.may x (wanted_of c.in-Some.access) c.in-Some-granted.granted (missed ∙ some) rests
     c.in-Some-granted.ensures c.fill.ensures.filled in
     let filled = c.fill.ensures.filled in
     sound-rebacked old c.fill.new.self c.requires.sound c.fill.ensures.rebacked
     (λ r u is. c.requires.sound.loaded r u (sym (loaded-elsewhere s.processors c.args.processor.0 r filled.tlb) ∙ subst (λ t. (processor t r).loaded ≡ Some u) filled.after is))
     (λ on. c.row_keeps.ensures.coherent s (state_of c.fill.new.self) (Refill c.args.processor) going.coherent row on)
 
-pub returns-in-None-clause-serves : goal.returns-in-None-clause-serves
-returns-in-None-clause-serves c =
-    let s = state_of c.args.self.now in
-    let x = c.requires.traps in
-    let misses : missed_access x.trap ≡ Some (wanted_of c.in-Some.access) =
-    sym (missed-same c.traps_tell.ensures s c.args.processor.0 c.args.vcpu.0 c.args.cause x) ∙ sym c.missed.ensures.access ∙ ap (option_map wanted_of) c.in-Some.is in
-    stays-denied s s c.args.processor.0 c.args.vcpu.0 c.args.cause x refl
-    (denied-missed s c.args.processor.0 c.args.vcpu.0 c.args.cause x (wanted_of c.in-Some.access) misses c.in-None.ensures) refl
-
-pub returns-in-Some-granted-clause-goes_on : goal.returns-in-Some-granted-clause-goes_on
-returns-in-Some-granted-clause-goes_on c =
+pub returns-then-is_miss-clause-goes_on : goal.returns-then-is_miss-clause-goes_on
+returns-then-is_miss-clause-goes_on c =
     let old = c.args.self.now in
     goes-on old c.fill.new.self (ap (λ l. all_halted l.items) c.fill.ensures.rebacked.vcpus) c.fill.ensures.rebacked.ended c.requires.may.goes_on
 
-pub returns-in-Some-granted-clause-runs : goal.returns-in-Some-granted-clause-runs
-returns-in-Some-granted-clause-runs c =
+pub returns-then-is_miss-clause-runs : goal.returns-then-is_miss-clause-runs
+returns-then-is_miss-clause-runs c =
     let s = state_of c.args.self.now in
     let filled = c.fill.ensures.filled in
     record {
       loaded = ap (λ t. (processor t c.args.processor.0).loaded) filled.after ∙ loaded-elsewhere s.processors c.args.processor.0 c.args.processor.0 filled.tlb ∙ c.requires.may.runs.loaded;
       running = ap (λ l. (get_or l.items c.args.vcpu.0 no_vcpu).halted) c.fill.ensures.rebacked.vcpus ∙ c.requires.may.runs.running;
+    }
+
+pub need-requires-clause-kept : goal.need-requires-clause-kept
+unfolding reaches-page
+need-requires-clause-kept c =
+    let s = state_of c.args.self.now in
+    let x = c.requires.traps in
+    let going = c.requires.sound.going c.requires.may.goes_on.not_ended in
+    let some : trapped_access x.trap ≡ Some (wanted_of c.in-Some.access) =
+    sym (accessed-same c.traps_tell.ensures s c.args.processor.0 c.args.vcpu.0 c.args.cause refl x) ∙ sym c.accessed.ensures.access ∙ ap (option_map wanted_of) c.in-Some.is in
+    let reaches = reaches-page s c.args.processor.0 c.args.vcpu.0 c.args.cause x (wanted_of c.in-Some.access) c.in-Some-granted.granted some c.in-Some-granted.ensures in
+    store-kept c.read_only_needs.ensures s c.args.processor.0 c.args.vcpu.0 c.in-Some-granted.granted.page.0 going.coherent refl c.requires.may.runs.loaded reaches
+    (not-missed x.trap (ap is_miss_of x.told ∙ sym c.is_miss.ensures ∙ c.if-is_miss.false))
+
+pub returns-clause-serves : goal.returns-clause-serves
+unfolding reaches-page
+returns-clause-serves c =
+    let s = state_of c.args.self.now in
+    let x = c.requires.traps in
+    let some : trapped_access x.trap ≡ Some (wanted_of c.in-Some.access) =
+    sym (accessed-same c.traps_tell.ensures s c.args.processor.0 c.args.vcpu.0 c.args.cause refl x) ∙ sym c.accessed.ensures.access ∙ ap (option_map wanted_of) c.in-Some.is in
+    record {
+      reaches = reaches-page s c.args.processor.0 c.args.vcpu.0 c.args.cause x (wanted_of c.in-Some.access) c.in-Some-granted.granted some c.in-Some-granted.ensures;
+      stores = not-missed x.trap (ap is_miss_of x.told ∙ sym c.is_miss.ensures ∙ c.if-is_miss.false);
+      needs = c.need.ensures;
+      same = refl;
     }

@@ -15,7 +15,7 @@ turn-requires-after_bounds g c κs within =
     let paused : c.loop-turn.burst.stop ≡ stop.Paused = search rules in (
       omega arith,
       (
-        subst (Fits g.N.Starts.starts g.N.Starts.board) (sym i.0.token) (record { board_is = fits.board_is; is_processor = fits.is_processor }),
+        subst (Fits g.N.Starts.starts g.N.Starts.board) (sym i.0.token) (record { board_is = fits.board_is; few = fits.few; is_processor = fits.is_processor }),
         (
           i.4,
           (

@@ -1,5 +1,5 @@
 -- The guest and the token are told the same.
-use Rattle.std.proofs.Common.{rules, ◌≡◌, ap, sym, ◌∙◌}
+use Rattle.std.proofs.Common.{rules, ◌≡◌, ap, sym, ◌∙◌, subst}
 use Rattle.shootdown.specs.Notes.{with_side}
 use Rattle.guest_core.specs.GuestCalls.{processor_of, loaded_on, told_of_turn}
 use Rattle.guest_lock.specs.Told.{AreInStep}
@@ -14,4 +14,5 @@ returns-clause-in_step g c =
     let number : was.number ≡ c.args.self.now.guest.number = search rules in
     let token = c.args.token.now in
     let before : AreInStep token was = ap (λ n. with_side n token.notes) number ∙ c.requires.in_step ∙ ap (with_side token.number) (sym notes) in
-    in_step-learns was token (told_of_turn (processor_of token) (loaded_on was token) c.turn.result) c.turn.new.self c.turn.new.token c.turn.ensures.leaves.learns c.turn.ensures.leaves.same.number before
+    subst (AreInStep c.turn-turn.new.token) (sym c.mark.ensures)
+    (in_step-learns was token (told_of_turn (processor_of token) (loaded_on was token) c.turn-turn.result) c.turn-turn.new.self c.turn-turn.new.token c.turn-turn.ensures.leaves.learns c.turn-turn.ensures.leaves.same.number before)

@@ -1,0 +1,9 @@
+//! Tests of moves of pages, and of a guest whose pages lie on frames.
+#![tactic(auto)]
+
+#[cfg(test)]
+mod guest_course_entries;
+#[cfg(test)]
+mod page_moves_kinds;
+#[cfg(test)]
+mod page_moves_rig;

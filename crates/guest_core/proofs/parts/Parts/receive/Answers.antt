@@ -1,0 +1,60 @@
+-- The packet in hand is received, and the guest is kept.
+use Rattle.std.specs.Vec.{vec_len}
+use Rattle.std.proofs.Common.{rules, ◌≡◌, inl, List, [], ◌∷◌, ◌++◌, length, refl, sym, ap, ◌∙◌, subst, arith}
+use Rattle.base_words.specs.declared.events.Event.{Event}
+use Rattle.base_words.specs.declared.events.Event.TheVariants.{PacketIn}
+use Rattle.isolation_law.specs.GuestState.{GuestState}
+use Rattle.guest_course.specs.CourseView.{state_of}
+use Rattle.guest_core.specs.Kept.{Kept}
+use Rattle.guest_core.specs.Wiring.{Posted}
+use Rattle.guest_core.proofs.OpenCounts.{calls-less, no-less, open-received}
+use Rattle.guest_core.proofs.HoldingLemmas.{frames-stay}
+use Rattle.guest_core.proofs.KeptProofs.{kept-none, receive-leaves, as-many}
+use Rattle.guest_core.proofs.RoomLemmas.{two-entries, less-room}
+use Rattle.guest_core.proofs.UsingProofs.{uses-row}
+use Rattle.guest_core.proofs.WiringProofs.{posted-received}
+use Rattle.guest_core.proofs.parts.Parts.receive.Goals as goal
+
+pub returns-clause-kept : goal.returns-clause-kept
+returns-clause-kept c =
+    let old = c.args.self.now in
+    let k = c.requires.kept in
+    let s = state_of old.course in
+    let t = state_of c.receive.new.self in
+    let place = length old.course.received.items in
+    let row = c.in_ok-receive.ensures.receives in
+    let w = c.laws.ensures.rows in
+    let v = c.laws.ensures.takes in
+    let kept = kept-none w c.laws.ensures.runs old.start s t old.journal.entries old.seat.notes (PacketIn place) k.kept (receive-leaves s t place row k.kept.nothing_due) refl in
+    let long : vec_len old.course.received ≡ place = search rules in
+    let entries = c.push.ensures.entries ∙ ap (λ n. old.journal.entries ++ PacketIn n ∷ []) (c.len-place.ensures ∙ long) in
+    let loads = as-many w s t (PacketIn place) (inl row) (λ r. refl) in
+    let opens = open-received s t place row in
+    let room = two-entries _ _ _ c.requires.room in
+    record {
+      sound = c.receive.ensures.sound;
+      seat = k.seat;
+      booted = k.booted;
+      kept = subst (λ (j : List Event). Kept old.start t j old.seat.notes) (sym entries) kept;
+      goes_on = λ on. c.receive.ensures.goes_on;
+      frames = frames-stay s t _ (c.exchanges.ensures.receives s t place row) (w.around s t (PacketIn place) (inl row)) (ap (λ (x : GuestState). x.end) row.after) k.frames;
+      used = uses-row w s t (PacketIn place) old.uses (inl row) (c.exchanges.ensures.receives s t place row) (λ r. refl) k.used;
+      at_home = k.at_home;
+      no_policy = k.no_policy;
+      owed = omega (arith, loads, opens, room, c.push.ensures.room);
+      few_guests = k.few_guests;
+      wired = k.wired;
+      posted = subst (λ (j : List Event). Posted t j old.wiring.passes) (sym entries) (posted-received v s t old.journal.entries place old.wiring.passes k.posted row);
+    }
+
+pub returns-clause-room : goal.returns-clause-room
+returns-clause-room c =
+    let old = c.args.self.now in
+    let s = state_of old.course in
+    let t = state_of c.receive.new.self in
+    let e = c.in_ok-receive.ensures in
+    let place = length old.course.received.items in
+    let loads = as-many c.laws.ensures.rows s t (PacketIn place) (inl e.receives) (λ r. refl) in
+    let opens = open-received s t place e.receives in
+    less-room _ _ _ _ _ _ (omega (arith, loads, opens, c.push.ensures.room))
+    (calls-less old.course c.receive.new.self (no-less _ _ e.print_room) (no-less _ _ e.send_room) (no-less _ _ (rw e.cells refl)) e.place_room (no-less _ _ e.room) (no-less _ _ (rw e.skips refl)))

@@ -1,0 +1,198 @@
+-- What calls do for moves of pages: they acknowledge and finish them, begin them, wait for them, and note those that can't be begun.
+use Rattle.std.specs.Prelude.{◌≡◌, ◌⊎◌, ℕ, suc, List, [], ◌∷◌, ◌++◌, length, map, Bool, true, false, if◌then◌else◌, Option, Some, None, Result, Ok, Err}
+use Rattle.std.specs.declared.alloc.AllocError.{AllocError}
+use Rattle.base_words.specs.Membership.{HasNone}
+use Rattle.base_words.specs.declared.ids.CellId.{CellId}
+use Rattle.base_words.specs.declared.ids.Ppn.{Ppn}
+use Rattle.base_words.specs.declared.ids.ProcId.{ProcId}
+use Rattle.base_words.specs.declared.ids.VcpuId.{VcpuId}
+use Rattle.base_words.specs.declared.events.Event.{Event}
+use Rattle.base_words.specs.declared.events.Event.TheVariants.{Begin, Ack, Finish, Skip}
+use Rattle.base_words.specs.declared.moves.By.TheVariants.{Plan, Step}
+use Rattle.base_words.specs.declared.moves.MoveKind.{MoveKind}
+use Rattle.base_words.specs.declared.moves.MoveKind.TheVariants.{Migrate, Replicate, Collapse}
+use Rattle.frame_words.specs.declared.view.View.{View}
+use Rattle.node_frames.specs.Layout.{Layout}
+use Rattle.node_frames.specs.Searches.{FindsNone}
+use Rattle.node_frames.specs.declared.answers.Shown.{Shown as Entry}
+use Rattle.private_machine.specs.Backing.{Move, Page}
+use Rattle.private_machine.specs.DeviceAct.{ReadsDisk}
+use Rattle.pmap_table.specs.Tracking.{waits_for, is_ready, nobody, IsLowest, HoldsNowhere}
+use Rattle.shootdown.specs.declared.notes.Note.{Note}
+use Rattle.isolation_law.specs.Causes.{first_cause, seeks_frame}
+use Rattle.base_words.specs.declared.events.End.TheVariants.{Budget}
+use Rattle.isolation_law.specs.EndRows.{Ends}
+use Rattle.isolation_law.specs.GuestState.{GuestState, page}
+use Rattle.isolation_law.specs.Parts.{Wish, Cause, Ended, DeadCell, Shared, Replicated, SameNode, NoReplica, NoFrame}
+use Rattle.isolation_law.specs.Run.{Run}
+use Rattle.isolation_law.specs.StepAct.{at_hand}
+use Rattle.isolation_law.specs.Surroundings.{Surroundings}
+use Rattle.guest_course.specs.RefillCalls.{ReachesPage}
+use Rattle.guest_course.specs.SkipView.{shown_of}
+use Rattle.guest_core.specs.Asks.{note_of}
+use Rattle.guest_core.specs.GuestView.{Monitored}
+use Rattle.guest_core.specs.Making.{MakesAlone, Rests}
+use Rattle.guest_core.specs.declared.answers.Asked.{Asked}
+use Rattle.guest_core.specs.declared.answers.Asked.TheVariants as asked
+use Rattle.guest_core.specs.declared.answers.Ready.{Ready}
+use Rattle.guest_core.specs.declared.answers.Ready.TheVariants as ready
+
+-- ---- before a step
+
+-- no page waits for the processor, and no move is ready to be finished
+pub record IsAtRest (s : GuestState) (p : ℕ) : Type 0 where
+  pub acknowledged : HoldsNowhere (waits_for p) s.pages
+  pub finished : HoldsNowhere is_ready s.pages
+
+-- the processor dropped what it had of the lowest page that waited for it
+pub record Acknowledges (old : Monitored) (p : ProcId) (q : Ppn) (new : Monitored) : Type 0 where
+  pub lowest : IsLowest (waits_for p.0) old.state.pages q.0
+  pub makes : MakesAlone old (Ack p q ∷ []) new
+
+-- no page waited for the processor, and the lowest page's move that was ready is done
+pub record FinishesLowest (old : Monitored) (p : ProcId) (q : Ppn) (new : Monitored) : Type 0 where
+  pub acknowledged : HoldsNowhere (waits_for p.0) old.state.pages
+  pub lowest : IsLowest is_ready old.state.pages q.0
+  pub makes : MakesAlone old (Finish q ∷ []) new
+
+-- ---- a step that meets a move
+
+-- the step at hand is on this page: the processor traps for an access to it that the guest grants, or a block is to come into it
+abbrev pub StepIsOn : GuestState → ℕ → ℕ → ℕ → Type 0
+StepIsOn s p v q = ReachesPage s p v q ⊎ ((b : ℕ) × (at_hand s v ≡ ReadsDisk b q))
+
+-- the page has no move into which a block comes with the step at hand, if it reads one
+abbrev pub ReadsFree : GuestState → ℕ → Type 0
+ReadsFree s v = (b q : ℕ) → at_hand s v ≡ ReadsDisk b q → (page s q).move ≡ None
+
+-- the page has a move that waits for these processors, of which there is one
+pub record HasWaiting (s : GuestState) (q : ℕ) (waiting : List Bool) : Type 0 where
+  pub move : Move
+  pub open_move : (page s q).move ≡ Some move
+  pub waiting_is : move.waiting ≡ waiting
+  pub somebody : HasNone waiting → ⊥
+
+-- the step waits for it
+pub record WaitsForMove (old : Monitored) (p : ProcId) (v : VcpuId) (q : Ppn) (set : List Bool) (new : Monitored) : Type 0 where
+  pub rest : IsAtRest old.state p.0
+  pub step : StepIsOn old.state p.0 v.0 q.0
+  pub waiting : HasWaiting old.state q.0 set
+  pub rests : Rests old new
+
+-- the step needs a move of the page, which has begun
+pub record BeginsForStep (old : Monitored) (p : ProcId) (v : VcpuId) (q : Ppn) (new : Monitored) : Type 0 where
+  pub rest : IsAtRest old.state p.0
+  pub step : StepIsOn old.state p.0 v.0 q.0
+  pub kind : MoveKind
+  pub makes : MakesAlone old (Begin q kind (record { 0 = old.state.around.home }) (Step p) ∷ []) new
+
+-- ---- a move that is asked for
+
+-- the plan may ask for a move to a node, and for a collapse with the home node
+abbrev pub IsPlanned : Surroundings → Wish → Type 0
+IsPlanned w wish = (wish.kind ≡ Migrate) ⊎ ((wish.kind ≡ Replicate) ⊎ ((wish.kind ≡ Collapse) × (wish.node ≡ w.home)))
+
+-- the plan asks for it, and it has begun
+abbrev pub BeginsMove : Monitored → ProcId → Wish → Monitored → Type 0
+BeginsMove old p wish new =
+    MakesAlone old (Begin (record { 0 = wish.page }) wish.kind (record { 0 = wish.node }) (Plan p) ∷ []) new
+
+-- the machine's frames, as a guest is told of them
+pub record IsLayoutOf (w : Surroundings) (layout : Layout) : Type 0 where
+  pub nodes : layout.nodes ≡ length w.nodes
+  pub frames : layout.frames ≡ w.frames
+  pub cells : map (λ (c : CellId). c.0) layout.cells ≡ w.nodes
+
+-- the node of which a frame was wanted showed this to the looks of this call
+pub record NodeShows (w : Surroundings) (lends : List ℕ) (home : ℕ) (node : ℕ) (shown : List Entry) (old new : View) : Type 0 where
+  pub layout : Layout
+  pub lies : IsLayoutOf w layout
+  pub finds : FindsNone layout lends home (record { 0 = node } ∷ []) shown old new
+
+-- a cause that the guest's state shows; of a frame that is wanting, what its node showed, which is what is noted
+abbrev pub SeesCause : Surroundings → List ℕ → ℕ → ℕ → Cause → View → View → Type 0
+SeesCause w lends home node Ended old new = new ≡ old
+SeesCause w lends home node (DeadCell cell) old new = new ≡ old
+SeesCause w lends home node Shared old new = new ≡ old
+SeesCause w lends home node Replicated old new = new ≡ old
+SeesCause w lends home node SameNode old new = new ≡ old
+SeesCause w lends home node NoReplica old new = new ≡ old
+SeesCause w lends home node (NoFrame list) old new = (shown : List Entry) × (list ≡ map shown_of shown) × NodeShows w lends home node shown old new
+
+-- what was asked for is noted with this cause
+pub record NotesSkip (old : Monitored) (p : ProcId) (wish : Wish) (cause : Cause) (new : Monitored) : Type 0 where
+  pub makes : MakesAlone old (Skip (length old.state.skips) ∷ []) new
+  pub noted : new.state.skips ≡ old.state.skips ++ record { wish = wish; by = Plan p; cause = cause } ∷ []
+  pub view : new.view ≡ old.view
+
+-- it can't be begun, for a cause that was looked for
+pub record SkipsMove (lends : List ℕ) (home : ℕ) (old : Monitored) (p : ProcId) (wish : Wish) (new : Monitored) : Type 0 where
+  pub cause : Cause
+  pub makes : MakesAlone old (Skip (length old.state.skips) ∷ []) new
+  pub noted : new.state.skips ≡ old.state.skips ++ record { wish = wish; by = Plan p; cause = cause } ∷ []
+  pub sees : SeesCause old.state.around lends home wish.node cause old.view new.view
+
+-- the page has a move, and the guest hasn't ended
+pub record IsBusy (old : Monitored) (q : ℕ) (waiting : List Bool) (new : Monitored) : Type 0 where
+  pub not_ended : old.state.end ≡ None
+  pub move : Move
+  pub open_move : (page old.state q).move ≡ Some move
+  pub waiting_is : move.waiting ≡ waiting
+  pub rests : Rests old new
+
+-- no entry was made, and a frame is sought for the page, which has no other move
+pub record WantsTarget (old : Monitored) (p : ProcId) (wish : Wish) (new : Monitored) : Type 0 where
+  pub no_cause : first_cause old.state p.0 wish ≡ None
+  pub no_move : (page old.state wish.page).move ≡ None
+  pub seeks : seeks_frame wish.kind ≡ true
+  pub rests : Rests old new
+
+abbrev pub AsksMove : List ℕ → ℕ → Monitored → ProcId → Wish → Monitored → Result Asked AllocError → Type 0
+AsksMove lends home old p wish new (Ok asked.Begun) = BeginsMove old p wish new
+AsksMove lends home old p wish new (Ok asked.Skipped) = SkipsMove lends home old p wish new
+AsksMove lends home old p wish new (Ok (asked.Busy waiting)) = IsBusy old wish.page waiting new
+AsksMove lends home old p wish new (Err e) = WantsTarget old p wish new
+
+abbrev pub told_of_ask : Wish → Result Asked AllocError → List Note
+told_of_ask wish (Ok asked.Begun) = note_of wish ∷ []
+told_of_ask wish (Ok asked.Skipped) = note_of wish ∷ []
+told_of_ask wish (Ok (asked.Busy waiting)) = []
+told_of_ask wish (Err e) = []
+
+-- ---- moves that are done
+
+pub record HasNoMove (old : Monitored) (q : ℕ) (new : Monitored) : Type 0 where
+  pub none : (page old.state q).move ≡ None
+  pub rests : Rests old new
+
+pub record StillWaits (old : Monitored) (q : ℕ) (set : List Bool) (new : Monitored) : Type 0 where
+  pub waiting : HasWaiting old.state q set
+  pub rests : Rests old new
+
+-- the move of a page is done where nobody waited for it
+abbrev pub FinishesReady : Monitored → Ppn → Monitored → Ready → Type 0
+FinishesReady old q new ready.Finished = MakesAlone old (Finish q ∷ []) new
+FinishesReady old q new (ready.Waits waiting) = StillWaits old q.0 waiting new
+FinishesReady old q new ready.NoMove = HasNoMove old q.0 new
+
+-- nobody waits for the move of a page, which has one
+abbrev pub is_done : Option Move → Bool
+is_done None = false
+is_done (Some m) = nobody m.waiting
+
+-- the ends of all moves for which nobody waits, in order of their pages, counted from q
+abbrev pub finishing : ℕ → List Page → List Event
+finishing q [] = []
+finishing q (g ∷ pages) = (if is_done g.move then Finish (record { 0 = q }) ∷ [] else []) ++ finishing (suc q) pages
+
+-- there is none any more
+abbrev pub NoneIsDone : GuestState → Type 0
+NoneIsDone s = (q : ℕ) → is_done (page s q).move ≡ false
+
+-- these moves are finished, and the guest ends for the end of the plan
+pub record EndsByPlan (s t : GuestState) : Type 0 where
+  pub mid : GuestState
+  pub finishes : Run s (finishing 0 s.pages) mid
+  pub devices : mid.devices ≡ s.devices
+  pub hand : mid.hand ≡ s.hand
+  pub row : Ends mid Budget t

@@ -1,0 +1,14 @@
+-- The disk read at hand asks for it.
+use Rattle.base_words.specs.declared.moves.By.TheVariants.{Step}
+use Rattle.guest_course.specs.CourseView.{state_of}
+use Rattle.guest_course.proofs.NeededProofs.{left-asks}
+use Rattle.guest_course.proofs.course.Course.begin_for_read.Goals as goal
+
+pub begin_asked-requires-clause-asked : goal.begin_asked-requires-clause-asked
+begin_asked-requires-clause-asked c =
+    (Step c.args.processor, left-asks (state_of c.args.self.now) c.args.processor c.args.vcpu.0 c.args.page.0 c.args.act c.args.kind c.requires.left c.requires.reads c.requires.needs)
+
+pub returns-clause-begins : goal.returns-clause-begins
+returns-clause-begins c =
+    c.begin_asked.ensures.begins (Step c.args.processor)
+    (left-asks (state_of c.args.self.now) c.args.processor c.args.vcpu.0 c.args.page.0 c.args.act c.args.kind c.requires.left c.requires.reads c.requires.needs)
