@@ -4,11 +4,11 @@
     asm.py DISCO [TIMES]
 
 Assembles texts of 1,048,576 bytes, the most that is read, and of a quarter of that: instructions up to the last place, labels, and empty
-comments. Each is run TIMES times (5), and the shortest time and the least peak memory count; what an empty text costs is taken off. Prints for
-each kind how many times as long the whole text takes as the quarter, and how many times as much memory; 4 is what follows from its length."""
+comments. Each is run TIMES times (20), and the shortest time and the least peak memory count; what an empty text costs is taken off. Prints for
+each kind how many times as long the whole text takes as the quarter, and how many times as much memory; 4 is what follows from its length. Last
+comes the memory of the whole text as a multiple of its bytes. GNU time measures the memory."""
 
 import argparse
-import os
 import pathlib
 import subprocess
 import tempfile
@@ -38,24 +38,23 @@ def comments(length):
 
 
 def cost(disco, file, times):
-    """The seconds of the shortest run, and the least peak memory in kilobytes."""
+    """The seconds of the shortest run, and the least peak memory in bytes."""
     seconds, memory = [], []
     for _ in range(times):
         begin = time.monotonic()
-        with subprocess.Popen([disco, "--asm", file], stdout=subprocess.DEVNULL) as run:
-            _, status, usage = os.wait4(run.pid, 0)
-            run.returncode = os.waitstatus_to_exitcode(status)
+        run = subprocess.run([disco, "--asm", file], stdout=subprocess.DEVNULL)
         seconds.append(time.monotonic() - begin)
-        memory.append(usage.ru_maxrss)
         if run.returncode != 0:
             raise SystemExit(f"{file}: status {run.returncode}")
+        run = subprocess.run(["time", "-f", "%M", disco, "--asm", file], stdout=subprocess.DEVNULL, stderr=subprocess.PIPE, check=True)
+        memory.append(1024 * int(run.stderr))
     return min(seconds), min(memory)
 
 
 def main():
     parser = argparse.ArgumentParser(description=__doc__, formatter_class=argparse.RawDescriptionHelpFormatter)
     parser.add_argument("disco", type=pathlib.Path)
-    parser.add_argument("times", type=int, nargs="?", default=5)
+    parser.add_argument("times", type=int, nargs="?", default=20)
     given = parser.parse_args()
     disco = given.disco.resolve()
     with tempfile.TemporaryDirectory() as folder:
@@ -66,12 +65,12 @@ def main():
             return cost(disco, file, given.times)
 
         nothing = of("")
-        print("| text | time, whole to a quarter | memory, whole to a quarter |")
-        print("|---|---|---|")
+        print("| text | time, whole to a quarter | memory, whole to a quarter | memory, to the text |")
+        print("|---|---|---|---|")
         for name, make in (("instructions", instructions), ("labels", labels), ("comments", comments)):
             whole, quarter = of(make(LONGEST)), of(make(LONGEST // 4))
             ratios = [(w - n) / max(q - n, 1e-9) for w, q, n in zip(whole, quarter, nothing)]
-            print(f"| {name} | {ratios[0]:.2f} | {ratios[1]:.2f} |")
+            print(f"| {name} | {ratios[0]:.2f} | {ratios[1]:.2f} | {(whole[1] - nothing[1]) / LONGEST:.1f} |")
 
 
 if __name__ == "__main__":

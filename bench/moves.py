@@ -16,6 +16,7 @@ import tempfile
 import time
 
 STEPS = 4_000_000
+ALONE = 16_000_000  # the most that a plan may have
 BETWEEN = 1_000
 MOVES = 2_000
 
@@ -54,7 +55,7 @@ def under_moves(image, moves):
 
 
 def alone(image, pages):
-    return machine(pages) + guest(image, pages, 0) + run(0, 0, STEPS)
+    return machine(pages) + guest(image, pages, 0) + run(0, 0, ALONE)
 
 
 def timed(disco, file):

@@ -5,9 +5,11 @@
 
 DISCO is the built program. Run number n of RUNS (100 if none is given) is that of the seed SEED + n (SEED is 0 if none is given), so each
 can be repeated alone. A run is a machine with one to eight guests, their disks, their input and a plan. The guests do all that a guest can
-do: instructions on values near an edge, accesses to everywhere, exceptions, their own TLB, user code, interrupts, disk commands, packets.
+do: instructions on values near an edge, accesses to everywhere, exceptions, their own TLB, user code, interrupts, disk commands, packets;
+and the plan moves their pages from node to node.
 Each run is made by `disco --private` and by `disco --machine`, and each report is compared byte by byte: consoles, ends, and under
-`--machine` the steps, the refills and the packets received. Where a plan leaves it open when a packet arrives the latter isn't compared.
+`--machine` the steps, the refills, the moves, the skips and the packets received. Where a plan leaves it open when a packet arrives the latter
+isn't compared; where it leaves open which moves are done, only how many were asked for; where it leaves open when, no refills.
 
 On a difference its seed is named, its folder is kept, the place where the reports part is shown, and the end is 1.
 """
@@ -17,6 +19,7 @@ from __future__ import annotations
 import argparse
 import os
 import pathlib
+import re
 import shutil
 import subprocess
 import sys
@@ -45,6 +48,8 @@ class Totals:
     steps: int = 0
     refills: int = 0
     received: int = 0
+    moves: int = 0
+    skips: int = 0
     coverage: Coverage = field(default_factory=Coverage.none)
 
     def add(self, monitor: Monitor) -> None:
@@ -55,13 +60,15 @@ class Totals:
         self.steps += sum(monitored.steps for monitored in monitor.guests)
         self.refills += sum(monitored.tlb.refills for monitored in monitor.guests)
         self.received += sum(monitored.received for monitored in monitor.guests)
+        self.moves += sum(monitored.moves for monitored in monitor.guests)
+        self.skips += sum(monitored.skips for monitored in monitor.guests)
         self.coverage.add(monitor.coverage())
 
     def line(self) -> str:
         kinds = sum(name in self.coverage.instructions for name in ENCODINGS)
         return (
             f"{self.runs} runs ({self.open_runs} of them alone only), {self.guests} guests ({self.halted} halted), {self.steps} steps, "
-            f"{self.refills} refills, {self.received} packets, {kinds} of {len(ENCODINGS)} kinds of instructions, "
+            f"{self.refills} refills, {self.received} packets, {self.moves + self.skips} moves asked for, {kinds} of {len(ENCODINGS)} kinds of instructions, "
             f"{len(self.coverage.exceptions)} of {len(Code)} kinds of exceptions"
         )
 
@@ -82,6 +89,21 @@ def report_of_disco(disco: pathlib.Path, option: str, folder: pathlib.Path) -> b
     return status + done.stdout + done.stderr
 
 
+SUMS = re.compile(rb" refills (\d+) moves (\d+) skips (\d+) ")
+
+
+def without_open_sums(report: bytes, monitor: Monitor) -> bytes:
+    """A report without the sums that the plan leaves open."""
+
+    def sums(found: re.Match[bytes]) -> bytes:
+        refills, moves, skips = found.groups()
+        kept = b"open" if monitor.refills_are_open else refills
+        asked = b"%d" % (int(moves) + int(skips))
+        return b" refills %s asked %s " % (kept, asked) if monitor.moves_are_open else found.group()
+
+    return SUMS.sub(sums, report)
+
+
 def parting(expected: bytes, found: bytes) -> str:
     """The place where two reports part, and what each has there."""
     shorter = min(len(expected), len(found))
@@ -100,10 +122,10 @@ def differences(disco: pathlib.Path, folder: pathlib.Path, made: Scenario, monit
     alone = private_report(made.starts, made.plan) if monitor.packets_arrived() else monitor.report_without_sums()
     expected = {"--private": alone}
     if not monitor.is_open:
-        expected["--machine"] = monitor.report()
+        expected["--machine"] = without_open_sums(monitor.report(), monitor)
     told = []
     for option, report in expected.items():
-        found = report_of_disco(disco, option, folder)
+        found = without_open_sums(report_of_disco(disco, option, folder), monitor)
         if found != report:
             (folder / f"expected{option}").write_bytes(report)
             (folder / f"found{option}").write_bytes(found)
@@ -114,7 +136,7 @@ def differences(disco: pathlib.Path, folder: pathlib.Path, made: Scenario, monit
 def compare(disco: pathlib.Path, seed: int, totals: Totals) -> bool:
     """Whether the reports of a seed's run are equal. The folder of one that isn't is kept."""
     made = scenario(seed)
-    monitor = Monitor(made.starts, made.hosts)
+    monitor = Monitor(made.starts, made.hosts, made.machine())
     monitor.carry_out(made.plan)
     totals.add(monitor)
     folder = pathlib.Path(tempfile.mkdtemp(prefix=f"random_guests_{seed}_"))

@@ -6,7 +6,7 @@ import struct
 from dataclasses import dataclass, field
 from random import Random
 
-from reference import Input, Run, Start
+from reference import Input, Item, Machine, Move, Run, Start
 
 from .assembler import KERNEL
 from .kernel import PROGRAM
@@ -25,8 +25,13 @@ class Scenario:
     lines: list[str] = field(default_factory=list)  # of the description
     starts: list[Start] = field(default_factory=list)
     hosts: list[int] = field(default_factory=list)  # each guest's processor of the machine
-    plan: list[Run] = field(default_factory=list)
-    nodes: int = 1
+    plan: list[Item] = field(default_factory=list)
+    cells: list[list[int]] = field(default_factory=list)
+    frames: int = 0  # of each node
+    homes: list[int] = field(default_factory=list)
+
+    def machine(self) -> Machine:
+        return Machine(self.cells, self.frames, self.homes)
 
     def description(self) -> bytes:
         return ("\n".join(self.lines) + "\n").encode()
@@ -45,7 +50,7 @@ def scenario(seed: int) -> Scenario:
     put_machine(made, random, processors, sum(each.pages for each in traits))
     for number, each in enumerate(traits):
         put_guest(made, random, number, each)
-    put_work(made, random, traits, together)
+    put_work(made, random, traits, together, processors)
     return made
 
 
@@ -64,13 +69,14 @@ def guest_traits(random: Random, guests: int, together: bool) -> Traits:
 def put_machine(made: Scenario, random: Random, processors: int, pages: int) -> None:
     """Nodes and cells with room for all pages; each cell lends as much as it has."""
     nodes = random.choice((1, 1, 2, 3))
-    frames = -(-pages // nodes) + random.choice((0, 1, 7))
-    made.lines += ["[machine]", f"nodes = {nodes}", f"frames = {frames}"]
+    made.frames = -(-pages // nodes) + random.choice((0, 1, 7))
+    made.lines += ["[machine]", f"nodes = {nodes}", f"frames = {made.frames}"]
     made.lines.append(f"processors = {[random.randrange(nodes) for _ in range(processors)]}")
+    made.cells = [list(range(nodes))]
     if nodes > 1 and random.random() < 0.5:
-        for cell in (list(range(nodes - 1)), [nodes - 1]):
-            made.lines += ["[[cell]]", f"nodes = {cell}", f"lend = {frames * nodes}"]
-    made.nodes = nodes
+        made.cells = [list(range(nodes - 1)), [nodes - 1]]
+        for cell in made.cells:
+            made.lines += ["[[cell]]", f"nodes = {cell}", f"lend = {made.frames * nodes}"]
 
 
 def put_guest(made: Scenario, random: Random, number: int, traits: Traits) -> None:
@@ -80,7 +86,8 @@ def put_guest(made: Scenario, random: Random, number: int, traits: Traits) -> No
     made.files[name] = memory if is_raw else elf(random, memory)
     disk_name = random.choice(list(DISKS)) if traits.has_disk else None
     made.lines += ["[[guest]]", f'image = "{name}"', f"pages = {traits.pages}", f"vcpus = {traits.processors}"]
-    made.lines.append(f"node = {random.randrange(made.nodes)}")
+    made.homes.append(random.choice([node for cell in made.cells for node in cell]))
+    made.lines.append(f"node = {made.homes[-1]}")
     made.lines += ['form = "raw"'] * is_raw + [f'disk = "{disk_name}"'] * traits.has_disk
     made.starts.append(
         Start(
@@ -104,18 +111,55 @@ def one_input(random: Random) -> Input:
     return Input(at, bytes(random.choices(b"abcXYZ 0189", k=random.randrange(1, 9))))
 
 
-def put_work(made: Scenario, random: Random, traits: list[Traits], together: bool) -> None:
-    """The runs of all guests, mixed, and then the input."""
-    items = [guest_items(random, number, each, together) for number, each in enumerate(traits)]
+def put_work(made: Scenario, random: Random, traits: list[Traits], together: bool, processors: int) -> None:
+    """The runs of all guests and the moves of their pages, mixed, and then the input."""
+    runs = [guest_items(random, number, each, together) for number, each in enumerate(traits)]
+    moves = guest_moves(made, random, traits, processors)
+    items: list[list[Item]] = [with_moves(random, each, asked) for each, asked in zip(runs, moves, strict=True)]
     waiting = [number for number, each in enumerate(items) for _ in each]
     random.shuffle(waiting)
     made.plan = [items[number].pop(0) for number in waiting]
-    for run in made.plan:
-        made.lines += ["[[work]]", 'act = "run"', f"processor = {made.hosts[run.guest]}", f"guest = {run.guest}"]
-        made.lines += [f"vcpu = {run.processor}", f"steps = {run.steps}"]
+    for item in made.plan:
+        made.lines += move_lines(item) if isinstance(item, Move) else run_lines(item, made.hosts[item.guest])
     for number, start in enumerate(made.starts):
         for entry in start.inputs:
             made.lines += ["[[input]]", f"guest = {number}", f"at = {entry.at}", f'text = "{entry.text.decode()}"']
+
+
+def run_lines(run: Run, host: int) -> list[str]:
+    return [
+        "[[work]]", 'act = "run"', f"processor = {host}", f"guest = {run.guest}", f"vcpu = {run.processor}", f"steps = {run.steps}",
+    ]
+
+
+def move_lines(move: Move) -> list[str]:
+    return [
+        "[[work]]", 'act = "move"', f"processor = {move.asker}", f"guest = {move.guest}", f"page = {move.page}", 'kind = "migrate"',
+        f"node = {move.node}",
+    ]
+
+
+def guest_moves(made: Scenario, random: Random, traits: list[Traits], processors: int) -> list[list[Move]]:
+    """Moves of each guest's pages, often of few pages, asked for by its host or by anyone."""
+    nodes = [node for cell in made.cells for node in cell]
+    most = random.choice((0, 0, 4, 30, 100))
+    by_anyone = random.random() < 0.5
+    moves = []
+    for number, each in enumerate(traits):
+        pages = random.choice((2, each.pages))
+        moves.append([
+            Move(random.randrange(processors) if by_anyone else made.hosts[number], number, random.randrange(pages), random.choice(nodes))
+            for _ in range(random.randrange(most + 1))
+        ])
+    return moves
+
+
+def with_moves(random: Random, runs: list[Run], moves: list[Move]) -> list[Item]:
+    """The runs in their order, and the moves anywhere between."""
+    items: list[Item] = [*runs]
+    for move in moves:
+        items.insert(random.randrange(len(items) + 1), move)
+    return items
 
 
 def guest_items(random: Random, number: int, traits: Traits, together: bool) -> list[Run]:

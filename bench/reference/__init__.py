@@ -5,6 +5,6 @@
 
 from .devices import Input
 from .machine import Coverage, Guest, Start, Watcher
-from .monitor import Monitor, Run, private_report
+from .monitor import Item, Machine, Monitor, Move, Run, private_report
 
-__all__ = ["Coverage", "Guest", "Input", "Monitor", "Run", "Start", "Watcher", "private_report"]
+__all__ = ["Coverage", "Guest", "Input", "Item", "Machine", "Monitor", "Move", "Run", "Start", "Watcher", "private_report"]

@@ -2,7 +2,7 @@
 
 Under the monitor a guest's console is the same, and two things come on top. The processor on which a virtual processor is loaded has a TLB
 of its own, which the monitor fills as pages are used, and the report counts these refills. And what guests send to each other arrives.
-No page moves or is shared here: each frame stays where it was given, nothing is kept of disks, and each packet is copied.
+Pages move as the plan says, of which a guest sees nothing. No page is shared here: nothing is kept of disks, and each packet is copied.
 """
 
 from __future__ import annotations
@@ -36,6 +36,64 @@ class Tag:
     pair: int
     asid: int
     is_global: bool
+
+
+@dataclass(frozen=True)
+class Move:
+    """An item of the plan: a processor of the machine asks that a guest's page lie on this node."""
+
+    asker: int
+    guest: int
+    page: int
+    node: int
+
+
+Item = Run | Move
+
+
+@dataclass(frozen=True)
+class Machine:
+    """The nodes of each cell, how many frames each node has, and each guest's home node."""
+
+    cells: Sequence[Sequence[int]]
+    frames: int
+    homes: Sequence[int]
+
+    def boot_order(self, home: int) -> list[int]:
+        """The nodes that are asked for a guest's frames: the home node, the others of its cell, and those of other cells."""
+        own = next(cell for cell in self.cells if home in cell)
+        others = sorted(node for cell in self.cells if cell is not own for node in cell)
+        return [home, *sorted(node for node in own if node != home), *others]
+
+
+class Frames:
+    """How many frames each node has left, and on which node each page of each guest lies. Each cell lends all that it has."""
+
+    def __init__(self, machine: Machine, pages: Sequence[int]) -> None:
+        self.free = {node: machine.frames for cell in machine.cells for node in cell}
+        self.places: list[list[int]] = []
+        for home, count in zip(machine.homes, pages, strict=True):
+            order = machine.boot_order(home)
+            self.places.append([])
+            for _ in range(count):
+                node = next(node for node in order if self.free[node])
+                self.free[node] -= 1
+                self.places[-1].append(node)
+
+    def move(self, item: Move) -> bool:
+        """Whether the page moves: it lies on another node, and that one has a frame left."""
+        old = self.places[item.guest][item.page]
+        if old == item.node or not self.free[item.node]:
+            return False
+        self.free[item.node] -= 1
+        self.free[old] += 1
+        self.places[item.guest][item.page] = item.node
+        return True
+
+    def give_back(self, guest: int) -> None:
+        for node in self.places[guest]:
+            self.free[node] += 1
+        self.places[guest] = []
 
 
 Half = tuple[int, int | None]  # a page and its address space; None: it is the same in all
@@ -116,6 +174,8 @@ class Monitored:
     last_sender: int  # whose packet was taken last
     steps: int = 0
     received: int = 0
+    moves: int = 0
+    skips: int = 0
     was_armed: bool = False
     has_foreign_packets: bool = False  # from a guest of another processor
 
@@ -150,22 +210,29 @@ class Wires:
 class Monitor:
     """All guests of a plan, carried out item by item in the order of the file.
 
-    All items of a guest have one processor of the machine, its host, so that their order is the file's in each run. Guests of other hosts
-    see nothing of each other but packets, and when these arrive is open.
+    All runs of a guest have one processor of the machine, its host, so that their order is the file's in each run. Guests of other hosts
+    see nothing of each other but packets, and when these arrive is open. Which moves are done is open where guests of several hosts take
+    frames, and how many refills a guest needs where another processor than its host moves its pages.
     """
 
-    def __init__(self, starts: Sequence[Start], hosts: Sequence[int]) -> None:
+    def __init__(self, starts: Sequence[Start], hosts: Sequence[int], machine: Machine) -> None:
         self.guests = []
         for number, start in enumerate(starts):
             tlb = HardwareTlb()
             self.guests.append(Monitored(Guest(start, tlb), tlb, last_sender=number))
         self.hosts = hosts
+        self.frames = Frames(machine, [start.pages for start in starts])
+        self.moves_are_open = False
+        self.refills_are_open = False
         self.wires = Wires(len(starts))
         self.is_open = False  # whether another run of the same plan may print something else
 
-    def carry_out(self, plan: Iterable[Run]) -> None:
+    def carry_out(self, plan: Iterable[Item]) -> None:
         for item in plan:
-            self.run(item)
+            if isinstance(item, Move):
+                self.move(item)
+            else:
+                self.run(item)
         for number in range(len(self.guests)):
             self.take_packet(number)
         self.is_open |= any(monitored.was_armed and monitored.has_foreign_packets for monitored in self.guests)
@@ -186,6 +253,18 @@ class Monitor:
             monitored.was_armed |= monitored.guest.devices.armed is not None
             for packet in monitored.guest.devices.sent[sent:]:
                 self.put_packet(item.guest, packet)
+            if monitored.guest.has_halted():
+                self.frames.give_back(item.guest)
+
+    def move(self, item: Move) -> None:
+        """Nothing of the guest is loaded on its host, so nobody has to acknowledge where that one asks."""
+        monitored = self.guests[item.guest]
+        self.refills_are_open |= item.asker != self.hosts[item.guest]
+        self.moves_are_open |= self.refills_are_open or len(set(self.hosts)) > 1
+        if not monitored.guest.has_halted() and self.frames.move(item):
+            monitored.moves += 1
+        else:
+            monitored.skips += 1
 
     def put_packet(self, sender: int, packet: Packet) -> None:
         self.wires.put(sender, packet.receiver, packet.data)
@@ -219,7 +298,8 @@ class Monitor:
     def report(self) -> bytes:
         return b"".join(
             report_of(number, monitored.guest)
-            + f"sums steps {monitored.steps} refills {monitored.tlb.refills} moves 0 skips 0 breaks 0 shared 0 ".encode()
+            + f"sums steps {monitored.steps} refills {monitored.tlb.refills} moves {monitored.moves} ".encode()
+            + f"skips {monitored.skips} breaks 0 shared 0 ".encode()
             + f"received {monitored.received} discarded 0\n".encode()
             for number, monitored in enumerate(self.guests)
         )
@@ -238,10 +318,12 @@ def report_of(number: int, guest: Guest) -> bytes:
     return f"guest {number} console {len(console)}\n".encode() + console + f"\nend {end}\n".encode()
 
 
-def private_report(starts: Sequence[Start], plan: Iterable[Run]) -> bytes:
+def private_report(starts: Sequence[Start], plan: Iterable[Item]) -> bytes:
     """The report of the guests, each alone: what one sends goes nowhere."""
     guests = [Guest(start, Watcher()) for start in starts]
     for item in plan:
+        if isinstance(item, Move):
+            continue
         guest = guests[item.guest]
         for _ in range(item.steps):
             if guest.processors[item.processor].halted:
