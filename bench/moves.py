@@ -6,7 +6,8 @@
 A guest loads, stores and branches on a page of its own, on a processor of one node; a processor of another node makes 1,000 steps of a guest of
 its own between one move and the next, which brings the page to the other node and back. Each description is run TIMES times (5) with the moves
 and without, in turns, and the shortest counts. Prints how fast the guests run with moves as a ratio to without (1 is as fast), and how many of
-the moves were done; and what a step costs with 2,048 pages as a ratio to 16, with no move."""
+the moves were done; what a step costs with 2,048 pages as a ratio to 16, with no move; and what a step of a guest that only reads costs where
+it reads its code and its data by replicas, and by frames of another node, as ratios to the frames of its own."""
 
 import argparse
 import pathlib
@@ -25,6 +26,13 @@ MOVES = 2_000
 WALK = (
     0x3C06C000, 0x34C61000, 0x8CC20000, 0x24420001, 0xACC20000, 0x90C30003,
     0x00832021, 0x0062282B, 0x10A00001, 0x24E70001, 0x08000002, 0x00000000,
+)
+
+
+# LUI 6, C000; ORI 6, 6, 1000; four times LW 2, 0(6), and ADDU 4, 4, 2; J to the first load; its delay slot
+READS = (
+    0x3C06C000, 0x34C61000, 0x8CC20000, 0x00822021, 0x8CC20000, 0x00822021, 0x8CC20000, 0x00822021, 0x8CC20000, 0x00822021,
+    0x08000002, 0x00000000,
 )
 
 
@@ -58,6 +66,16 @@ def alone(image, pages):
     return machine(pages) + guest(image, pages, 0) + run(0, 0, ALONE)
 
 
+def replica(page):
+    return f'[[work]]\nact = "move"\nprocessor = 1\nguest = 0\npage = {page}\nkind = "replicate"\nnode = 1\n'
+
+
+def reading(image, processor, replicas):
+    """The guest lies on node 0; its two pages have replicas on node 1, if they are wanted."""
+    moves = "".join(map(replica, replicas))
+    return machine(16) + guest(image, 16, 0) + moves + run(processor, 0, ALONE)
+
+
 def timed(disco, file):
     begin = time.monotonic()
     done = subprocess.run([disco, "--machine", file], check=True, capture_output=True)
@@ -85,12 +103,17 @@ def main():
         top = pathlib.Path(folder)
         image = top / "walk.raw"
         image.write_bytes(struct.pack(f">{len(WALK)}I", *WALK))
+        readers = top / "reads.raw"
+        readers.write_bytes(struct.pack(f">{len(READS)}I", *READS))
         files = []
         for name, text in (
             ("still", under_moves(image, 0)),
             ("moving", under_moves(image, MOVES)),
             ("few", alone(image, 16)),
             ("many", alone(image, 2048)),
+            ("near", reading(readers, 0, ())),
+            ("replicas", reading(readers, 1, (0, 1))),
+            ("remote", reading(readers, 1, ())),
         ):
             file = top / f"{name}.toml"
             file.write_text(text)
@@ -100,6 +123,7 @@ def main():
         print(f"with a move every {BETWEEN} steps of another processor: {least[0] / least[1]:.2f} times as fast as without")
         print(f"its guest: {sums}")
         print(f"2,048 pages: {least[3] / least[2]:.2f} times as long as 16")
+        print(f"by replicas: {least[5] / least[4]:.2f} times as long as by masters, and {least[6] / least[4]:.2f} times by frames of another node")
 
 
 if __name__ == "__main__":

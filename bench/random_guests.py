@@ -6,10 +6,11 @@
 DISCO is the built program. Run number n of RUNS (100 if none is given) is that of the seed SEED + n (SEED is 0 if none is given), so each
 can be repeated alone. A run is a machine with one to eight guests, their disks, their input and a plan. The guests do all that a guest can
 do: instructions on values near an edge, accesses to everywhere, exceptions, their own TLB, user code, interrupts, disk commands, packets;
-and the plan moves their pages from node to node.
+and the plan and mostly a policy move their pages from node to node and replicate them.
 Each run is made by `disco --private` and by `disco --machine`, and each report is compared byte by byte: consoles, ends, and under
 `--machine` the steps, the refills, the moves, the skips and the packets received. Where a plan leaves it open when a packet arrives the latter
-isn't compared; where it leaves open which moves are done, only how many were asked for; where it leaves open when, no refills.
+isn't compared. Where it leaves open which of a guest's moves begin, only how many were asked for; where that depends on moves before, not even
+that; and where it leaves open when its pages move or have replicas, no refills.
 
 On a difference its seed is named, its folder is kept, the place where the reports part is shown, and the end is 1.
 """
@@ -24,10 +25,11 @@ import shutil
 import subprocess
 import sys
 import tempfile
+from collections.abc import Sequence
 from dataclasses import dataclass, field
 
 from generator.scenario import Scenario, scenario
-from reference import Coverage, Monitor, private_report
+from reference import Coverage, Monitor, Openness, private_report
 from reference.exceptions import Code
 from reference.opcode_maps import ENCODINGS
 
@@ -50,6 +52,9 @@ class Totals:
     received: int = 0
     moves: int = 0
     skips: int = 0
+    open_guests: int = 0
+    accesses: int = 0
+    misses: int = 0
     coverage: Coverage = field(default_factory=Coverage.none)
 
     def add(self, monitor: Monitor) -> None:
@@ -58,17 +63,23 @@ class Totals:
         self.guests += len(monitor.guests)
         self.halted += sum(monitored.guest.has_halted() for monitored in monitor.guests)
         self.steps += sum(monitored.steps for monitored in monitor.guests)
-        self.refills += sum(monitored.tlb.refills for monitored in monitor.guests)
         self.received += sum(monitored.received for monitored in monitor.guests)
-        self.moves += sum(monitored.moves for monitored in monitor.guests)
-        self.skips += sum(monitored.skips for monitored in monitor.guests)
+        self.open_guests += sum(each != Openness() for each in monitor.openness)
+        for host in (monitored.host for monitored in monitor.guests):
+            self.refills += host.refills
+            self.accesses += host.accesses
+            self.misses += host.misses
+            self.moves += host.pages.moves
+            self.skips += host.pages.skips
         self.coverage.add(monitor.coverage())
 
     def line(self) -> str:
         kinds = sum(name in self.coverage.instructions for name in ENCODINGS)
         return (
-            f"{self.runs} runs ({self.open_runs} of them alone only), {self.guests} guests ({self.halted} halted), {self.steps} steps, "
-            f"{self.refills} refills, {self.received} packets, {self.moves + self.skips} moves asked for, {kinds} of {len(ENCODINGS)} kinds of instructions, "
+            f"{self.runs} runs ({self.open_runs} of them alone only), "
+            f"{self.guests} guests ({self.halted} halted, {self.open_guests} with open sums), {self.steps} steps, "
+            f"{self.refills} refills, {self.misses} of {self.accesses} data accesses remote, {self.moves} moves, {self.skips} skips, "
+            f"{self.received} packets, {kinds} of {len(ENCODINGS)} kinds of instructions, "
             f"{len(self.coverage.exceptions)} of {len(Code)} kinds of exceptions"
         )
 
@@ -89,17 +100,19 @@ def report_of_disco(disco: pathlib.Path, option: str, folder: pathlib.Path) -> b
     return status + done.stdout + done.stderr
 
 
-SUMS = re.compile(rb" refills (\d+) moves (\d+) skips (\d+) ")
+SUMS = re.compile(rb"(\nsums steps \d+) refills (\d+) moves (\d+) skips (\d+) ")
 
 
-def without_open_sums(report: bytes, monitor: Monitor) -> bytes:
-    """A report without the sums that the plan leaves open."""
+def without_open_sums(report: bytes, openness: Sequence[Openness]) -> bytes:
+    """A report without the sums that are open."""
+    guests = iter(openness)
 
     def sums(found: re.Match[bytes]) -> bytes:
-        refills, moves, skips = found.groups()
-        kept = b"open" if monitor.refills_are_open else refills
-        asked = b"%d" % (int(moves) + int(skips))
-        return b" refills %s asked %s " % (kept, asked) if monitor.moves_are_open else found.group()
+        steps, refills, moves, skips = found.groups()
+        each = next(guests, Openness())
+        asked = b"open" if each.asked else b"%d" % (int(moves) + int(skips))
+        begun = b"asked " + asked if each.moves else b"moves %s skips %s" % (moves, skips)
+        return b"%s refills %s %s " % (steps, b"open" if each.refills else refills, begun)
 
     return SUMS.sub(sums, report)
 
@@ -122,10 +135,10 @@ def differences(disco: pathlib.Path, folder: pathlib.Path, made: Scenario, monit
     alone = private_report(made.starts, made.plan) if monitor.packets_arrived() else monitor.report_without_sums()
     expected = {"--private": alone}
     if not monitor.is_open:
-        expected["--machine"] = without_open_sums(monitor.report(), monitor)
+        expected["--machine"] = without_open_sums(monitor.report(), monitor.openness)
     told = []
     for option, report in expected.items():
-        found = without_open_sums(report_of_disco(disco, option, folder), monitor)
+        found = without_open_sums(report_of_disco(disco, option, folder), monitor.openness)
         if found != report:
             (folder / f"expected{option}").write_bytes(report)
             (folder / f"found{option}").write_bytes(found)
@@ -136,7 +149,7 @@ def differences(disco: pathlib.Path, folder: pathlib.Path, made: Scenario, monit
 def compare(disco: pathlib.Path, seed: int, totals: Totals) -> bool:
     """Whether the reports of a seed's run are equal. The folder of one that isn't is kept."""
     made = scenario(seed)
-    monitor = Monitor(made.starts, made.hosts, made.machine())
+    monitor = Monitor(made.starts, made.hosts, made.machine(), made.policy)
     monitor.carry_out(made.plan)
     totals.add(monitor)
     folder = pathlib.Path(tempfile.mkdtemp(prefix=f"random_guests_{seed}_"))

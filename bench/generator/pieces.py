@@ -236,6 +236,14 @@ def linked_update(context: Context) -> None:
     context.code.listing(add_to_sum(stored))
 
 
+def loads_and_unmade_stores(context: Context) -> None:
+    """Conditional stores without a link, and loads, of a line of the code that is seldom written."""
+    context.code.constant(15, KERNEL + 0x1000)
+    for _ in range(context.random.randrange(2, 7)):
+        context.code.op(context.random.choice(("LW", "LBU", "SC")), rs=15, rt=14, immediate=4 * context.random.randrange(8))
+        context.code.listing(add_to_sum(14))
+
+
 def locked_counter(context: Context) -> None:
     """Adds to a word that all virtual processors count in."""
     context.code.constant(COUNTER, context.random.randrange(2, 12))

@@ -30,6 +30,7 @@ PIECES: Weighted = (
     (4, pieces.unaligned_word),
     (5, pieces.linked_update),
     (2, pieces.locked_counter),
+    (3, pieces.loads_and_unmade_stores),
     (4, pieces.loop),
     (8, pieces.conditional_branch),
     (5, pieces.jump),

@@ -6,7 +6,7 @@ import struct
 from dataclasses import dataclass, field
 from random import Random
 
-from reference import Input, Item, Machine, Move, Run, Start
+from reference import Ask, Collapse, Input, Item, Machine, Migrate, PageMove, Policy, Replicate, Run, Start
 
 from .assembler import KERNEL
 from .kernel import PROGRAM
@@ -28,10 +28,12 @@ class Scenario:
     plan: list[Item] = field(default_factory=list)
     cells: list[list[int]] = field(default_factory=list)
     frames: int = 0  # of each node
+    processors: list[int] = field(default_factory=list)  # the node of each
     homes: list[int] = field(default_factory=list)
+    policy: Policy = Policy()
 
     def machine(self) -> Machine:
-        return Machine(self.cells, self.frames, self.homes)
+        return Machine(self.cells, self.frames, self.homes, self.processors)
 
     def description(self) -> bytes:
         return ("\n".join(self.lines) + "\n").encode()
@@ -50,7 +52,8 @@ def scenario(seed: int) -> Scenario:
     put_machine(made, random, processors, sum(each.pages for each in traits))
     for number, each in enumerate(traits):
         put_guest(made, random, number, each)
-    put_work(made, random, traits, together, processors)
+    put_policy(made, random)
+    put_work(made, random, traits, together)
     return made
 
 
@@ -67,11 +70,11 @@ def guest_traits(random: Random, guests: int, together: bool) -> Traits:
 
 
 def put_machine(made: Scenario, random: Random, processors: int, pages: int) -> None:
-    """Nodes and cells with room for all pages; each cell lends as much as it has."""
-    nodes = random.choice((1, 1, 2, 3))
-    made.frames = -(-pages // nodes) + random.choice((0, 1, 7))
-    made.lines += ["[machine]", f"nodes = {nodes}", f"frames = {made.frames}"]
-    made.lines.append(f"processors = {[random.randrange(nodes) for _ in range(processors)]}")
+    """Nodes and cells with room for all pages, or with far more; each cell lends as much as it has."""
+    nodes = random.choice((1, 2, 2, 3, 4, 8))
+    made.frames = random.choice((-(-pages // nodes), 2 * pages)) + random.choice((0, 1, 7, 20))
+    made.processors = [random.randrange(nodes) for _ in range(processors)]
+    made.lines += ["[machine]", f"nodes = {nodes}", f"frames = {made.frames}", f"processors = {made.processors}"]
     made.cells = [list(range(nodes))]
     if nodes > 1 and random.random() < 0.5:
         made.cells = [list(range(nodes - 1)), [nodes - 1]]
@@ -86,7 +89,7 @@ def put_guest(made: Scenario, random: Random, number: int, traits: Traits) -> No
     made.files[name] = memory if is_raw else elf(random, memory)
     disk_name = random.choice(list(DISKS)) if traits.has_disk else None
     made.lines += ["[[guest]]", f'image = "{name}"', f"pages = {traits.pages}", f"vcpus = {traits.processors}"]
-    made.homes.append(random.choice([node for cell in made.cells for node in cell]))
+    made.homes.append(random.choice(made.machine().nodes()))
     made.lines.append(f"node = {made.homes[-1]}")
     made.lines += ['form = "raw"'] * is_raw + [f'disk = "{disk_name}"'] * traits.has_disk
     made.starts.append(
@@ -111,16 +114,31 @@ def one_input(random: Random) -> Input:
     return Input(at, bytes(random.choices(b"abcXYZ 0189", k=random.randrange(1, 9))))
 
 
-def put_work(made: Scenario, random: Random, traits: list[Traits], together: bool, processors: int) -> None:
+def put_policy(made: Scenario, random: Random) -> None:
+    """Thresholds that are reached soon. A replica comes before a migration only where that has a higher one, or none."""
+    if random.random() < 0.4:
+        return
+    low, high = random.choice((1, 2, 3, 7)), random.choice((3, 8, 40))
+    made.policy = random.choice((Policy(low, 0), Policy(0, low), Policy(0, low), Policy(high, low), Policy(low, high)))
+    made.lines += policy_lines(made.policy)
+
+
+def policy_lines(policy: Policy) -> list[str]:
+    """A threshold of 0 needs no line."""
+    thresholds = (("migrate", policy.migrate), ("replicate", policy.replicate))
+    return ["[policy]", *(f"{name} = {threshold}" for name, threshold in thresholds if threshold)]
+
+
+def put_work(made: Scenario, random: Random, traits: list[Traits], together: bool) -> None:
     """The runs of all guests and the moves of their pages, mixed, and then the input."""
     runs = [guest_items(random, number, each, together) for number, each in enumerate(traits)]
-    moves = guest_moves(made, random, traits, processors)
-    items: list[list[Item]] = [with_moves(random, each, asked) for each, asked in zip(runs, moves, strict=True)]
+    asks = guest_asks(made, random, traits)
+    items: list[list[Item]] = [with_asks(random, each, asked) for each, asked in zip(runs, asks, strict=True)]
     waiting = [number for number, each in enumerate(items) for _ in each]
     random.shuffle(waiting)
     made.plan = [items[number].pop(0) for number in waiting]
     for item in made.plan:
-        made.lines += move_lines(item) if isinstance(item, Move) else run_lines(item, made.hosts[item.guest])
+        made.lines += ask_lines(item) if isinstance(item, Ask) else run_lines(item, made.hosts[item.guest])
     for number, start in enumerate(made.starts):
         for entry in start.inputs:
             made.lines += ["[[input]]", f"guest = {number}", f"at = {entry.at}", f'text = "{entry.text.decode()}"']
@@ -132,33 +150,40 @@ def run_lines(run: Run, host: int) -> list[str]:
     ]
 
 
-def move_lines(move: Move) -> list[str]:
-    return [
-        "[[work]]", 'act = "move"', f"processor = {move.asker}", f"guest = {move.guest}", f"page = {move.page}", 'kind = "migrate"',
-        f"node = {move.node}",
-    ]
+def ask_lines(ask: Ask) -> list[str]:
+    return ["[[work]]", 'act = "move"', f"processor = {ask.asker}", f"guest = {ask.guest}", *move_lines(ask.move)]
 
 
-def guest_moves(made: Scenario, random: Random, traits: list[Traits], processors: int) -> list[list[Move]]:
+def move_lines(move: PageMove) -> list[str]:
+    """A collapse has no node."""
+    lines = [f"page = {move.page}", f'kind = "{move.kind}"']
+    return lines if isinstance(move, Collapse) else [*lines, f"node = {move.node}"]
+
+
+def guest_asks(made: Scenario, random: Random, traits: list[Traits]) -> list[list[Ask]]:
     """Moves of each guest's pages, often of few pages, asked for by its host or by anyone."""
-    nodes = [node for cell in made.cells for node in cell]
     most = random.choice((0, 0, 4, 30, 100))
-    by_anyone = random.random() < 0.5
-    moves = []
+    by_anyone = random.random() < 0.3
+    asks = []
     for number, each in enumerate(traits):
-        pages = random.choice((2, each.pages))
-        moves.append([
-            Move(random.randrange(processors) if by_anyone else made.hosts[number], number, random.randrange(pages), random.choice(nodes))
-            for _ in range(random.randrange(most + 1))
-        ])
-    return moves
+        pages = random.choice((2, 8, each.pages))
+        askers = range(len(made.processors)) if by_anyone else [made.hosts[number]]
+        moves = [page_move(made, random, random.randrange(pages)) for _ in range(random.randrange(most + 1))]
+        asks.append([Ask(random.choice(askers), number, move) for move in moves])
+    return asks
 
 
-def with_moves(random: Random, runs: list[Run], moves: list[Move]) -> list[Item]:
-    """The runs in their order, and the moves anywhere between."""
+def page_move(made: Scenario, random: Random, page: int) -> PageMove:
+    """More replicas are asked for than collapses, as stores ask for these too."""
+    node = random.choice(made.machine().nodes())
+    return random.choice((Migrate(page, node), Replicate(page, node), Replicate(page, node), Collapse(page)))
+
+
+def with_asks(random: Random, runs: list[Run], asks: list[Ask]) -> list[Item]:
+    """The runs in their order, and the moves that are asked for anywhere between."""
     items: list[Item] = [*runs]
-    for move in moves:
-        items.insert(random.randrange(len(items) + 1), move)
+    for ask in asks:
+        items.insert(random.randrange(len(items) + 1), ask)
     return items
 
 

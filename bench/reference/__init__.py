@@ -4,7 +4,29 @@
 """
 
 from .devices import Input
+from .frames import Machine
 from .machine import Coverage, Guest, Start, Watcher
-from .monitor import Item, Machine, Monitor, Move, Run, private_report
+from .monitor import Monitor, private_report
+from .moves import Collapse, Migrate, PageMove, Policy, Replicate
+from .openness import Openness
+from .plan import Ask, Item, Run
 
-__all__ = ["Coverage", "Guest", "Input", "Item", "Machine", "Monitor", "Move", "Run", "Start", "Watcher", "private_report"]
+__all__ = [
+    "Ask",
+    "Collapse",
+    "Coverage",
+    "Guest",
+    "Input",
+    "Item",
+    "Machine",
+    "Migrate",
+    "Monitor",
+    "Openness",
+    "PageMove",
+    "Policy",
+    "Replicate",
+    "Run",
+    "Start",
+    "Watcher",
+    "private_report",
+]

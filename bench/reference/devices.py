@@ -133,6 +133,7 @@ class Devices:
             return
         block, page = processor.transfer.block, processor.transfer.disk_page
         if value == READ_BLOCK:
+            self.guest.watcher.block_comes(processor, page)
             self.guest.replace_page(page, self.disk[block])
         else:
             self.disk[block] = self.guest.page(page)
@@ -168,6 +169,7 @@ class Devices:
 
     def receive(self, sender: int, data: bytes) -> None:
         """A packet comes into the armed page."""
+        self.guest.watcher.packet_comes(self.armed)
         self.guest.replace_page(self.armed, data)
         self.packet_length, self.packet_sender = len(data), sender
         self.guest.processors[0].coprocessor.set_line(PACKET_INTERRUPT, True)

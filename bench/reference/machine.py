@@ -10,7 +10,7 @@ from .exceptions import Code, GuestException, coprocessor_unusable
 from .instructions import Decoded
 from .opcode_maps import decode
 from .processor import VirtualProcessor
-from .tlb import Entry
+from .tlb import Entry, Use
 
 DEVICE_PAGE = 0xFFFF
 
@@ -30,11 +30,23 @@ class Start:
 class Watcher:
     """Who is told of what the guest doesn't see itself. This one does nothing."""
 
-    def fetched(self, processor: VirtualProcessor, address: int) -> None:
-        """The virtual processor may fetch at this address, and memory is there."""
+    def fetched(self, processor: VirtualProcessor, address: int, place: int) -> None:
+        """The virtual processor may fetch at this address, and this place of memory is there."""
 
-    def accessed(self, processor: VirtualProcessor, address: int) -> None:
-        """It may access data at this address, and memory is there."""
+    def accessed(self, processor: VirtualProcessor, address: int, place: int, use: Use) -> None:
+        """It may use data at this address so, and this place of memory is there."""
+
+    def loaded(self, place: int) -> None:
+        """An instruction loads from this place, or would have stored there conditionally."""
+
+    def stored(self, place: int) -> None:
+        """An instruction stores to this place."""
+
+    def block_comes(self, processor: VirtualProcessor, page: int) -> None:
+        """The instruction of the virtual processor is about to read a block into this page."""
+
+    def packet_comes(self, page: int) -> None:
+        """A packet is about to come into this page."""
 
     def tlb_written(self, processor: VirtualProcessor, old: Entry, new: Entry) -> None:
         """An entry of its TLB is replaced."""

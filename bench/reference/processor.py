@@ -86,30 +86,28 @@ class VirtualProcessor:
         place = self.physical(self.pc, Use.FETCH, 4)
         if not self.guest.has_memory(place):
             raise GuestException(Code.IBE)
-        self.guest.watcher.fetched(self, self.pc)
+        self.guest.watcher.fetched(self, self.pc, place)
         return self.guest.word(place)
 
     def memory_place(self, address: int, use: Use, size: int) -> int:
         """Where the data at an address lies in memory."""
-        return self.granted(self.physical(address, use, size), address)
+        return self.granted(self.physical(address, use, size), address, use)
 
-    def granted(self, place: int, address: int) -> int:
+    def granted(self, place: int, address: int, use: Use) -> int:
         """A place of memory; a bus error where there is none."""
         if not self.guest.has_memory(place):
             raise GuestException(Code.DBE)
-        self.guest.watcher.accessed(self, address)
+        self.guest.watcher.accessed(self, address, place, use)
         return place
 
     def load(self, address: int, size: int) -> int:
-        """So many bytes at an address, most significant byte first, as a number."""
-        place = self.memory_place(address, Use.LOAD, size)
-        return int.from_bytes(self.guest.memory[place : place + size], "big")
+        return self.read_memory(self.memory_place(address, Use.LOAD, size), size)
 
     def load_word(self, address: int) -> int:
         """LW, which reaches the device page too."""
         place = self.physical(address, Use.LOAD, 4)
         if not self.guest.is_device(place):
-            return self.guest.word(self.granted(place, address))
+            return self.read_memory(self.granted(place, address, Use.LOAD), 4)
         value = self.guest.devices.load(self, place & 0xFFF)
         if value is None:
             raise GuestException(Code.DBE)
@@ -117,13 +115,12 @@ class VirtualProcessor:
 
     def load_word_around(self, address: int) -> int:
         """The aligned word in which the byte at an address lies."""
-        place = self.memory_place(address, Use.LOAD, 1)
-        return self.guest.word(place & ~3)
+        return self.read_memory(self.memory_place(address, Use.LOAD, 1) & ~3, 4)
 
     def load_linked(self, address: int) -> int:
         place = self.memory_place(address, Use.LOAD, 4)
         self.link = line_of(place)
-        return self.guest.word(place)
+        return self.read_memory(place, 4)
 
     def store(self, address: int, size: int, value: int) -> None:
         """The lowest bytes of a register, most significant byte first."""
@@ -134,7 +131,7 @@ class VirtualProcessor:
         """SW, which reaches the device page too."""
         place = self.physical(address, Use.STORE, 4)
         if not self.guest.is_device(place):
-            self.write_memory(self.granted(place, address), value.to_bytes(4, "big"))
+            self.write_memory(self.granted(place, address, Use.STORE), value.to_bytes(4, "big"))
         elif not self.guest.devices.store(self, place & 0xFFF, value):
             raise GuestException(Code.DBE)
 
@@ -155,10 +152,18 @@ class VirtualProcessor:
         self.link = None
         if linked:
             self.write_memory(place, value.to_bytes(4, "big"))
+        else:
+            self.guest.watcher.loaded(place)
         return linked
+
+    def read_memory(self, place: int, size: int) -> int:
+        """So many bytes, most significant byte first, as a number."""
+        self.guest.watcher.loaded(place)
+        return int.from_bytes(self.guest.memory[place : place + size], "big")
 
     def write_memory(self, place: int, data: bytes) -> None:
         """A store into a line clears the links of the other virtual processors to it."""
+        self.guest.watcher.stored(place)
         self.guest.memory[place : place + len(data)] = data
         for other in self.guest.processors:
             if other is not self and other.link == line_of(place):

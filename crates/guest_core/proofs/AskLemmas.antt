@@ -1,8 +1,10 @@
 -- A move that is asked for begins, or is noted where it can't: what is kept of the guest, and what is answered.
-use Rattle.std.proofs.Common.{◌≡◌, ℕ, zero, suc, ◌+◌, ◌-◌, ◌<◌, not, ◌&&◌, if◌then◌else◌, Bool, true, false, List, [], ◌∷◌, ◌++◌, Option, Some, None, Ok, length, map, get_or, refl, sym, ap, ◌∙◌, subst}
+use Rattle.std.proofs.Common.{◌≡◌, ◌≢◌, ℕ, zero, suc, ◌+◌, ◌-◌, ◌<◌, not, ◌&&◌, if◌then◌else◌, Bool, true, false, List, [], ◌∷◌, ◌++◌, Option, Some, None, Ok, Err, length, map, get_or, refl, sym, ap, ◌∙◌, subst}
 use Rattle.std.specs.Prelude.{slice_get}
+use Rattle.std.specs.declared.alloc.AllocError.{AllocError}
 use Rattle.std.specs.List.{list_any}
 use Rattle.std.proofs.lemmas.List.{map-append}
+use Rattle.std.proofs.lemmas.List.Elements.{All-nil, All-cons}
 use Rattle.atomic_table.specs.Seated.{TableId}
 use Rattle.base_words.specs.declared.events.Event.{Event}
 use Rattle.base_words.specs.declared.events.Event.TheVariants.{Begin, Skip}
@@ -10,7 +12,7 @@ use Rattle.base_words.specs.declared.ids.NodeId.{NodeId}
 use Rattle.base_words.specs.declared.ids.Ppn.{Ppn}
 use Rattle.base_words.specs.declared.ids.ProcId.{ProcId}
 use Rattle.base_words.specs.declared.moves.By.{By}
-use Rattle.base_words.specs.declared.moves.By.TheVariants.{Plan, Packet}
+use Rattle.base_words.specs.declared.moves.By.TheVariants.{Plan, Due, Step, Packet}
 use Rattle.base_words.specs.declared.moves.MoveKind.{MoveKind}
 use Rattle.base_words.specs.declared.moves.MoveKind.TheVariants.{Migrate, Replicate, Collapse, Break, TakeShared, GiveShared}
 use Rattle.base_words.specs.declared.events.End.{End}
@@ -20,13 +22,13 @@ use Rattle.shootdown.specs.declared.view.SidedNote.{SidedNote}
 use Rattle.shootdown.specs.Notes.{sided}
 use Rattle.node_frames.specs.declared.answers.Shown.{Shown as Entry}
 use Rattle.isolation_law.specs.Causes.{by_kind, by_page, by_cell, by_end, seeks_frame, first_cause}
-use Rattle.isolation_law.specs.Dues.{without_due}
+use Rattle.isolation_law.specs.DuesFit.{DuesFit}
 use Rattle.isolation_law.specs.GuestState.{GuestState, page, due_on, is_dead}
-use Rattle.isolation_law.specs.MoveRows.{Begins}
+use Rattle.isolation_law.specs.MoveRows.{Asks, PlanAsks, DueAsks, Begins}
 use Rattle.isolation_law.specs.Phases.{GoesOn}
 use Rattle.isolation_law.specs.Needs.{none_of}
 use Rattle.isolation_law.specs.Parts.{Wish, Cause, Ended, DeadCell, Shared, Replicated, SameNode, NoReplica, NoFrame, SkipEntry}
-use Rattle.isolation_law.specs.SkipRow.{Skips}
+use Rattle.isolation_law.specs.SkipRow.{Skips, SkipAsked, asker}
 use Rattle.isolation_law.specs.Start.{Boot}
 use Rattle.isolation_law.specs.Surroundings.{Surroundings, cell_of_node, cell_of_processor}
 use Rattle.isolation_law.specs.WireHistory.{TakesNothing}
@@ -39,10 +41,10 @@ use Rattle.guest_core.specs.EntryNotes.{note_of_entry}
 use Rattle.guest_core.specs.GuestView.{Monitored}
 use Rattle.guest_core.specs.Kept.{Kept}
 use Rattle.guest_core.specs.Laws.{RowLaws, RunLaws}
-use Rattle.guest_core.specs.MoveCalls.{NodeShows, SeesCause, NotesSkip, AsksMove}
+use Rattle.guest_core.specs.MoveCalls.{AsksBy, IsPlanned, NodeShows, SeesCause, NotesSkip, AsksMove, told_by}
 use Rattle.guest_core.specs.declared.answers.Asked.{Asked}
 use Rattle.guest_core.specs.declared.answers.Asked.TheVariants as asked
-use Rattle.guest_core.proofs.KeptProofs.{Leaves, kept-one, kept-none}
+use Rattle.guest_core.proofs.KeptProofs.{AreThere, kept-entry, kept-none}
 
 -- ---- the place of a skip
 
@@ -50,40 +52,85 @@ pub last-of : {A : Type 0} (l : List A) (x : A) → slice_get (l ++ x ∷ []) (l
 last-of [] x = refl
 last-of (y ∷ l) x = last-of l x
 
--- the note of a skip that the plan asked for
-pub skip-note : (skips : List SkipEntry) (p : ProcId) (entry : SkipEntry) → entry.by ≡ Plan p → note_of_entry p.0 (skips ++ entry ∷ []) (Skip (length skips)) ≡ sided p.0 (note_of entry.wish) ∷ []
-skip-note skips p entry by = ap asked_at (last-of skips entry) ∙ ap (asked_by entry.wish) by
+-- ---- who asked
 
--- ---- what is due
+-- the plan's ask is noted of its processor, the policy's isn't
+pub told-sided : (s : GuestState) (p : ProcId) (wish : Wish) (by : By) → AsksBy s p wish by → map (sided p.0) (told_by by wish (Ok asked.Skipped)) ≡ asked_by wish by
+told-sided s p wish (Plan q) is = ap (λ (r : ProcId). sided r.0 (note_of wish) ∷ []) (sym is.0)
+told-sided s p wish (Due q) is = refl
+told-sided s p wish (Step q) is = absurd is
+told-sided s p wish Packet is = absurd is
 
-due-cleared : (q : ℕ) (dues : List (Option Wish)) (r : ℕ) → get_or dues r None ≡ None → get_or (map (without_due q) dues) r None ≡ None
-due-cleared q [] r is = refl
-due-cleared q (x ∷ dues) zero is = ap (without_due q) is
-due-cleared q (x ∷ dues) (suc r) is = due-cleared q dues r is
+pub told-none : (by : By) (wish : Wish) (waiting : List Bool) → told_by by wish (Ok (asked.Busy waiting)) ≡ []
+told-none (Plan q) wish waiting = refl
+told-none (Due q) wish waiting = refl
+told-none (Step q) wish waiting = refl
+told-none Packet wish waiting = refl
 
-pub skip-leaves : (s t : GuestState) (k : ℕ) → Skips s k t → ((r : ℕ) → due_on s r ≡ None) → Leaves s (Skip k) t
-skip-leaves s t k row none = record { row = row; due = λ r. ap (λ x. due_on x r) row.after ∙ due-cleared row.entry.wish.page s.due r (none r) }
+pub told-failed : (by : By) (wish : Wish) (e : AllocError) → told_by by wish (Err e) ≡ []
+told-failed (Plan q) wish e = refl
+told-failed (Due q) wish e = refl
+told-failed (Step q) wish e = refl
+told-failed Packet wish e = refl
 
-pub begin-leaves : (s t : GuestState) (q : Ppn) (kind : MoveKind) (node : NodeId) (by : By) → Begins s q.0 kind node.0 by t → ((r : ℕ) → due_on s r ≡ None) → Leaves s (Begin q kind node by) t
-begin-leaves s t q kind node by row none = record { row = row; due = λ r. ap (λ x. due_on x r) row.after ∙ due-cleared q.0 s.due r (none r) }
+pub told-begun : (by : By) (wish : Wish) → told_by by wish (Ok asked.Begun) ≡ told_by by wish (Ok asked.Skipped)
+told-begun (Plan q) wish = refl
+told-begun (Due q) wish = refl
+told-begun (Step q) wish = refl
+told-begun Packet wish = refl
+
+asked-there : (s : GuestState) (p : ProcId) (wish : Wish) (by : By) → AsksBy s p wish by → p.0 < length s.processors → AreThere s (asked_by wish by)
+asked-there s p wish (Plan q) is there = All-cons (λ (n : SidedNote). n.side < length s.processors) (sided q.0 (note_of wish)) [] (subst (λ (r : ProcId). r.0 < length s.processors) (sym is.0) there) (All-nil _)
+asked-there s p wish (Due q) is there = All-nil _
+asked-there s p wish (Step q) is there = absurd is
+asked-there s p wish Packet is there = absurd is
+
+pub is-asker : (s : GuestState) (p : ProcId) (wish : Wish) (by : By) → AsksBy s p wish by → asker by ≡ p.0
+is-asker s p wish (Plan q) is = ap (λ (r : ProcId). r.0) is.0
+is-asker s p wish (Due q) is = ap (λ (r : ProcId). r.0) is.0
+is-asker s p wish (Step q) is = absurd is
+is-asker s p wish Packet is = absurd is
+
+plan-asks : (s : GuestState) (p q : ProcId) (wish : Wish) → AsksBy s p wish (Plan q) → IsPlanned s.around wish → PlanAsks s q.0 wish
+plan-asks s p q wish is planned = record { planned = planned; not_due = subst (λ (r : ProcId). due_on s r.0 ≢ Some wish) (sym is.0) is.1 }
+
+due-asks : (s : GuestState) (p q : ProcId) (wish : Wish) → AsksBy s p wish (Due q) → DuesFit s → DueAsks s q.0 wish
+due-asks s p q wish is fit =
+    let due : due_on s q.0 ≡ Some wish = ap (λ (r : ProcId). due_on s r.0) is.0 ∙ is.1 in
+    record { is_due = due; seeks = fit.seeks q.0 wish due }
+
+-- as a skip wants it, and a begin
+pub asks-skip : (s : GuestState) (p : ProcId) (wish : Wish) (by : By) → AsksBy s p wish by → IsPlanned s.around wish → DuesFit s → SkipAsked s by wish
+asks-skip s p wish (Plan q) is planned fit = plan-asks s p q wish is planned
+asks-skip s p wish (Due q) is planned fit = due-asks s p q wish is fit
+asks-skip s p wish (Step q) is planned fit = absurd is
+asks-skip s p wish Packet is planned fit = absurd is
+
+pub asks-begin : (s : GuestState) (p : ProcId) (wish : Wish) (by : By) → AsksBy s p wish by → IsPlanned s.around wish → DuesFit s → first_cause s p.0 wish ≡ None → Asks s by wish None
+asks-begin s p wish (Plan q) is planned fit none = (plan-asks s p q wish is planned, ap (λ (r : ProcId). first_cause s r.0 wish) is.0 ∙ none, refl)
+asks-begin s p wish (Due q) is planned fit none = (due-asks s p q wish is fit, ap (λ (r : ProcId). first_cause s r.0 wish) is.0 ∙ none, refl)
+asks-begin s p wish (Step q) is planned fit none = absurd is
+asks-begin s p wish Packet is planned fit none = absurd is
 
 -- ---- what is kept
 
-pub kept-skip : RowLaws → RunLaws → (b : Boot) (s t : GuestState) (journal : List Event) (notes : List SidedNote) (p : ProcId) (entry : SkipEntry) → entry.by ≡ Plan p → Kept b s journal notes → p.0 < length s.processors
-    → Skips s (length s.skips) t → t.skips ≡ s.skips ++ entry ∷ [] → Kept b t (journal ++ Skip (length s.skips) ∷ []) (notes ++ sided p.0 (note_of entry.wish) ∷ [])
-kept-skip w r b s t journal notes p entry by k there row added =
-    kept-one w r b s t journal notes (Skip (length s.skips)) (sided p.0 (note_of entry.wish)) k (skip-leaves s t (length s.skips) row k.nothing_due)
-    (ap (λ (l : List SkipEntry). note_of_entry p.0 l (Skip (length s.skips))) added ∙ skip-note s.skips p entry by) there
+pub kept-skip : RowLaws → RunLaws → (b : Boot) (s t : GuestState) (journal : List Event) (notes : List SidedNote) (p : ProcId) (entry : SkipEntry) → AsksBy s p entry.wish entry.by → Kept b s journal notes → p.0 < length s.processors
+    → Skips s (length s.skips) t → t.skips ≡ s.skips ++ entry ∷ [] → Kept b t (journal ++ Skip (length s.skips) ∷ []) (notes ++ asked_by entry.wish entry.by)
+kept-skip w r b s t journal notes p entry is k there row added =
+    let note : note_of_entry 0 t.skips (Skip (length s.skips)) ≡ asked_by entry.wish entry.by =
+    ap (λ (l : List SkipEntry). asked_at (slice_get l (length s.skips))) added ∙ ap asked_at (last-of s.skips entry) in
+    subst (λ (l : List SidedNote). Kept b t (journal ++ Skip (length s.skips) ∷ []) (notes ++ l)) note
+    (kept-entry w r b s t journal notes (Skip (length s.skips)) 0 k row (subst (AreThere s) (sym note) (asked-there s p entry.wish entry.by is there)))
 
-pub kept-begin : RowLaws → RunLaws → (b : Boot) (s t : GuestState) (journal : List Event) (notes : List SidedNote) (q : Ppn) (kind : MoveKind) (node : NodeId) (p : ProcId) → Kept b s journal notes → p.0 < length s.processors
-    → Begins s q.0 kind node.0 (Plan p) t → Kept b t (journal ++ Begin q kind node (Plan p) ∷ []) (notes ++ sided p.0 (note_of (record { page = q.0; kind = kind; node = node.0 })) ∷ [])
-kept-begin w r b s t journal notes q kind node p k there row =
-    kept-one w r b s t journal notes (Begin q kind node (Plan p)) (sided p.0 (note_of (record { page = q.0; kind = kind; node = node.0 }))) k (begin-leaves s t q kind node (Plan p) row k.nothing_due) refl there
+pub kept-begin : RowLaws → RunLaws → (b : Boot) (s t : GuestState) (journal : List Event) (notes : List SidedNote) (p : ProcId) (q : Ppn) (kind : MoveKind) (node : NodeId) (by : By) → AsksBy s p (record { page = q.0; kind = kind; node = node.0 }) by
+    → Kept b s journal notes → p.0 < length s.processors → Begins s q.0 kind node.0 by t → Kept b t (journal ++ Begin q kind node by ∷ []) (notes ++ asked_by (record { page = q.0; kind = kind; node = node.0 }) by)
+kept-begin w r b s t journal notes p q kind node by is k there row =
+    kept-entry w r b s t journal notes (Begin q kind node by) 0 k row (asked-there s p (record { page = q.0; kind = kind; node = node.0 }) by is there)
 
 pub kept-packet : RowLaws → RunLaws → (b : Boot) (s t : GuestState) (journal : List Event) (notes : List SidedNote) (q : Ppn) (kind : MoveKind) (node : NodeId) → Kept b s journal notes
     → Begins s q.0 kind node.0 Packet t → Kept b t (journal ++ Begin q kind node Packet ∷ []) notes
 kept-packet w r b s t journal notes q kind node k row =
-    kept-none w r b s t journal notes (Begin q kind node Packet) k (begin-leaves s t q kind node Packet row k.nothing_due) refl
+    kept-none w r b s t journal notes (Begin q kind node Packet) k row refl
 
 -- the list of skips grows by what was put down
 pub skips-added : (c d : Course) (entry : Skipped) → d.skips.items ≡ c.skips.items ++ entry ∷ [] → (state_of d).skips ≡ (state_of c).skips ++ skip_of entry ∷ []
@@ -157,22 +204,22 @@ sees-it w lends home node SameNode old new seen same = same
 sees-it w lends home node NoReplica old new seen same = same
 sees-it w lends home node (NoFrame list) old new seen same = absurd seen
 
-skipped-with : (lends : List ℕ) (home : ℕ) (old new : Monitored) (p : ProcId) (wish : Wish) (cause : Cause) (answer : Asked) → answer ≡ asked.Skipped → NotesSkip old p wish cause new
-    → SeesCause old.state.around lends home wish.node cause old.view new.view → AsksMove lends home old p wish new (Ok answer)
-skipped-with lends home old new p wish cause answer is n sees =
-    subst (λ (a : Asked). AsksMove lends home old p wish new (Ok a)) (sym is) (record { cause = cause; makes = n.makes; noted = n.noted; sees = sees })
+skipped-with : (lends : List ℕ) (home : ℕ) (old new : Monitored) (p : ProcId) (by : By) (wish : Wish) (cause : Cause) (answer : Asked) → answer ≡ asked.Skipped → NotesSkip old by wish cause new
+    → SeesCause old.state.around lends home wish.node cause old.view new.view → AsksMove lends home old p by wish new (Ok answer)
+skipped-with lends home old new p by wish cause answer is n sees =
+    subst (λ (a : Asked). AsksMove lends home old p by wish new (Ok a)) (sym is) (record { cause = cause; makes = n.makes; noted = n.noted; sees = sees })
 
 -- with the first cause that holds
-pub skip-asks : (lends : List ℕ) (home : ℕ) (old new : Monitored) (p : ProcId) (wish : Wish) (cause : Cause) (answer : Asked) → answer ≡ asked.Skipped → first_cause old.state p.0 wish ≡ Some cause → NotesSkip old p wish cause new
-    → AsksMove lends home old p wish new (Ok answer)
-skip-asks lends home old new p wish cause answer is first n =
-    skipped-with lends home old new p wish cause answer is n (sees-it old.state.around lends home wish.node cause old.view new.view (subst IsSeen first (seen-first old.state p.0 wish)) n.view)
+pub skip-asks : (lends : List ℕ) (home : ℕ) (old new : Monitored) (p : ProcId) (by : By) (wish : Wish) (cause : Cause) (answer : Asked) → answer ≡ asked.Skipped → first_cause old.state p.0 wish ≡ Some cause → NotesSkip old by wish cause new
+    → AsksMove lends home old p by wish new (Ok answer)
+skip-asks lends home old new p by wish cause answer is first n =
+    skipped-with lends home old new p by wish cause answer is n (sees-it old.state.around lends home wish.node cause old.view new.view (subst IsSeen first (seen-first old.state p.0 wish)) n.view)
 
 -- with what the node showed, by looks of which the holder's view tells
-pub frame-asks : (lends : List ℕ) (home : ℕ) (old new : Monitored) (table : TableId) (view : View) (p : ProcId) (wish : Wish) (shown : List Entry) (answer : Asked) → answer ≡ asked.Skipped
-    → NodeShows old.state.around lends home wish.node shown old.view view → NotesSkip (record old { table = table; view = view }) p wish (NoFrame (map shown_of shown)) new → AsksMove lends home old p wish new (Ok answer)
-frame-asks lends home old new table view p wish shown answer is shows n =
-    subst (λ (a : Asked). AsksMove lends home old p wish new (Ok a)) (sym is) (record {
+pub frame-asks : (lends : List ℕ) (home : ℕ) (old new : Monitored) (table : TableId) (view : View) (p : ProcId) (by : By) (wish : Wish) (shown : List Entry) (answer : Asked) → answer ≡ asked.Skipped
+    → NodeShows old.state.around lends home wish.node shown old.view view → NotesSkip (record old { table = table; view = view }) by wish (NoFrame (map shown_of shown)) new → AsksMove lends home old p by wish new (Ok answer)
+frame-asks lends home old new table view p by wish shown answer is shows n =
+    subst (λ (a : Asked). AsksMove lends home old p by wish new (Ok a)) (sym is) (record {
       cause = NoFrame (map shown_of shown);
       makes = record { makes = record { journal = n.makes.makes.journal; run = n.makes.makes.run }; passes = n.makes.passes };
       noted = n.noted;

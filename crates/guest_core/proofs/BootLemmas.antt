@@ -146,7 +146,6 @@ kept-start b none = record {
     loaded = λ p lt. ap (λ (x : Processor). x.loaded) (sym (at-replicate (length b.around.processors) p idle));
   };
   around = refl;
-  nothing_due = λ r. at-replicate (length b.around.processors) r None;
   processors = length-replicate (length b.around.processors) idle;
   vcpus = length-replicate b.vcpus (beginning b.image.entry);
 }

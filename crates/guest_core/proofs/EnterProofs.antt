@@ -26,16 +26,15 @@ use Rattle.guest_core.specs.declared.parts.Parts.{Parts}
 use Rattle.guest_core.specs.Kept.{Kept, IsKept}
 use Rattle.guest_core.specs.TurnParts.{Concludes}
 use Rattle.guest_core.specs.Laws.{MoveLaws, RowLaws, RunLaws}
-use Rattle.guest_core.proofs.KeptProofs.{IsOff, kept-one, kept-none, direct-leaves, refill-leaves, emulate-leaves, emulate-end, end-leaves, end-due}
+use Rattle.guest_core.proofs.KeptProofs.{kept-one, kept-none, emulate-end, end-due}
 
-pub kept-direct : RowLaws → RunLaws → (b : Boot) (s t : GuestState) (journal : List Event) (notes : List SidedNote) (p : ProcId) (v : VcpuId) → IsOff b.around.policy → Kept b s journal notes → p.0 < length s.processors
+pub kept-direct : RowLaws → RunLaws → (b : Boot) (s t : GuestState) (journal : List Event) (notes : List SidedNote) (p : ProcId) (v : VcpuId) → Kept b s journal notes → p.0 < length s.processors
     → Steps s p.0 v.0 t → Kept b t (journal ++ Direct p v ∷ []) (notes ++ sided p.0 (Made (Direct p v)) ∷ [])
-kept-direct w r b s t journal notes p v off k there row =
-    kept-one w r b s t journal notes (Direct p v) (sided p.0 (Made (Direct p v))) k
-    (direct-leaves s t p v row (subst (λ (x : Policy). IsOff x) (sym (ap (λ a. a.policy) k.around)) off) k.nothing_due) refl there
+kept-direct w r b s t journal notes p v k there row =
+    kept-one w r b s t journal notes (Direct p v) (sided p.0 (Made (Direct p v))) k row refl there
 
 pub kept-refill : RowLaws → RunLaws → (b : Boot) (s t : GuestState) (journal : List Event) (notes : List SidedNote) (p : ProcId) → Kept b s journal notes → Refills s p.0 t → Kept b t (journal ++ Refill p ∷ []) notes
-kept-refill w r b s t journal notes p k row = kept-none w r b s t journal notes (Refill p) k (refill-leaves s t p row k.nothing_due) refl
+kept-refill w r b s t journal notes p k row = kept-none w r b s t journal notes (Refill p) k row refl
 
 -- a step by the monitor's hand, and the end where it halted the last virtual processor
 concluded : (halted : Bool) → RowLaws → RunLaws → (b : Boot) (m t : GuestState) (journal : List Event) (notes : List SidedNote) (p : ProcId) (v : VcpuId) → Kept b m (journal ++ Emulate p v ∷ []) notes → Concludes halted m t
@@ -43,13 +42,13 @@ concluded : (halted : Bool) → RowLaws → RunLaws → (b : Boot) (m t : GuestS
 concluded false w r b m t journal notes p v k is = subst (λ (x : GuestState). Kept b x (journal ++ Emulate p v ∷ []) notes) (sym is) k
 concluded true w r b m t journal notes p v k is =
     subst (λ (j : List Event). Kept b t j notes) (append_assoc journal (Emulate p v ∷ []) (Ending ByHalt ∷ []))
-    (kept-none w r b m t (journal ++ Emulate p v ∷ []) notes (Ending ByHalt) k (end-leaves m t ByHalt is k.nothing_due) refl)
+    (kept-none w r b m t (journal ++ Emulate p v ∷ []) notes (Ending ByHalt) k is refl)
 
 pub kept-emulate : RowLaws → RunLaws → (b : Boot) (s m t : GuestState) (journal : List Event) (notes : List SidedNote) (p : ProcId) (v : VcpuId) → Kept b s journal notes → p.0 < length s.processors → Emulates s p.0 v.0 m
     → (halted : Bool) → Concludes halted m t → Kept b t (journal ++ step_entries p v halted) (notes ++ sided p.0 (Made (Emulate p v)) ∷ [])
 kept-emulate w r b s m t journal notes p v k there row halted is =
     concluded halted w r b m t journal (notes ++ sided p.0 (Made (Emulate p v)) ∷ []) p v
-    (kept-one w r b s m journal notes (Emulate p v) (sided p.0 (Made (Emulate p v))) k (emulate-leaves s m p v row k.nothing_due) refl there) is
+    (kept-one w r b s m journal notes (Emulate p v) (sided p.0 (Made (Emulate p v))) k (inl row) refl there) is
 
 -- ---- what is kept, told of the journal and the notes that there are
 
@@ -67,7 +66,6 @@ noted-kept g seat n k is kept = record {
   frames = k.frames;
   used = k.used;
   at_home = k.at_home;
-  no_policy = k.no_policy;
   owed = k.owed;
   few_guests = k.few_guests;
   wired = k.wired;

@@ -67,7 +67,6 @@ kept-comes grows b s t journal notes k comes = record {
   run = grows (started b) s t journal k.run comes;
   noted = noted-comes s t journal notes k.noted comes;
   around = ap (λ (x : GuestState). x.around) comes.after ∙ k.around;
-  nothing_due = λ r. ap (λ (x : GuestState). due_on x r) comes.after ∙ k.nothing_due r;
   processors = ap (λ (x : GuestState). length x.processors) comes.after ∙ k.processors;
   vcpus = ap (λ (x : GuestState). length x.vcpus) comes.after ∙ k.vcpus;
 }

@@ -41,40 +41,30 @@ use Rattle.guest_core.specs.Laws.{MoveLaws, RowLaws, RunLaws}
 use Rattle.guest_core.proofs.CountLemmas.{count-same, count-loaded, count-unloaded}
 use Rattle.guest_core.proofs.NoteLemmas.{noted-entry, noted-answer}
 
--- the policy is off
-abbrev pub IsOff : Policy → Type 0
-IsOff policy = (policy.migrate ≡ 0) × (policy.replicate ≡ 0)
-
--- an entry that leaves no choice due
-pub record Leaves (s : GuestState) (e : Event) (t : GuestState) : Type 0 where
-  pub row : Row s e t
-  pub due : (r : ℕ) → due_on t r ≡ None
-
 -- the note of an entry is of a processor that is there
-abbrev AreThere : GuestState → List SidedNote → Type 0
+abbrev pub AreThere : GuestState → List SidedNote → Type 0
 AreThere s notes = All (λ (n : SidedNote). n.side < length s.processors) notes
 
-kept-entry : RowLaws → RunLaws → (b : Boot) (s t : GuestState) (journal : List Event) (notes : List SidedNote) (e : Event) (side : ℕ) → Kept b s journal notes → Leaves s e t
+pub kept-entry : RowLaws → RunLaws → (b : Boot) (s t : GuestState) (journal : List Event) (notes : List SidedNote) (e : Event) (side : ℕ) → Kept b s journal notes → Row s e t
     → AreThere s (note_of_entry side t.skips e) → Kept b t (journal ++ e ∷ []) (notes ++ note_of_entry side t.skips e)
-kept-entry w r b s t journal notes e side k l there = record {
-  run = w.grows (started b) s t journal e k.run l.row;
-  noted = noted-entry w r b s t journal notes e side k.run k.noted l.row there;
-  around = w.around s t e l.row ∙ k.around;
-  nothing_due = l.due;
-  processors = w.processors s t e l.row ∙ k.processors;
-  vcpus = w.count s t e l.row ∙ k.vcpus;
+kept-entry w r b s t journal notes e side k row there = record {
+  run = w.grows (started b) s t journal e k.run row;
+  noted = noted-entry w r b s t journal notes e side k.run k.noted row there;
+  around = w.around s t e row ∙ k.around;
+  processors = w.processors s t e row ∙ k.processors;
+  vcpus = w.count s t e row ∙ k.vcpus;
 }
 
-pub kept-one : RowLaws → RunLaws → (b : Boot) (s t : GuestState) (journal : List Event) (notes : List SidedNote) (e : Event) (n : SidedNote) → Kept b s journal notes → Leaves s e t
+pub kept-one : RowLaws → RunLaws → (b : Boot) (s t : GuestState) (journal : List Event) (notes : List SidedNote) (e : Event) (n : SidedNote) → Kept b s journal notes → Row s e t
     → note_of_entry n.side t.skips e ≡ n ∷ [] → n.side < length s.processors → Kept b t (journal ++ e ∷ []) (notes ++ n ∷ [])
-kept-one w r b s t journal notes e n k l is there =
+kept-one w r b s t journal notes e n k row is there =
     let all = All-cons (λ (m : SidedNote). m.side < length s.processors) n [] there (All-nil _) in
-    subst (λ (more : List SidedNote). Kept b t (journal ++ e ∷ []) (notes ++ more)) is (kept-entry w r b s t journal notes e n.side k l (subst (AreThere s) (sym is) all))
+    subst (λ (more : List SidedNote). Kept b t (journal ++ e ∷ []) (notes ++ more)) is (kept-entry w r b s t journal notes e n.side k row (subst (AreThere s) (sym is) all))
 
-pub kept-none : RowLaws → RunLaws → (b : Boot) (s t : GuestState) (journal : List Event) (notes : List SidedNote) (e : Event) → Kept b s journal notes → Leaves s e t
+pub kept-none : RowLaws → RunLaws → (b : Boot) (s t : GuestState) (journal : List Event) (notes : List SidedNote) (e : Event) → Kept b s journal notes → Row s e t
     → note_of_entry 0 t.skips e ≡ [] → Kept b t (journal ++ e ∷ []) notes
-kept-none w r b s t journal notes e k l none =
-    let all = kept-entry w r b s t journal notes e 0 k l (subst (AreThere s) (sym none) (All-nil _)) in
+kept-none w r b s t journal notes e k row none =
+    let all = kept-entry w r b s t journal notes e 0 k row (subst (AreThere s) (sym none) (All-nil _)) in
     subst (Kept b t (journal ++ e ∷ [])) (ap (λ (more : List SidedNote). notes ++ more) none ∙ append-nil notes) all
 
 -- an answer that is noted, with no entry
@@ -84,52 +74,9 @@ kept-answer r b s journal notes n k there is holds = record {
   run = k.run;
   noted = noted-answer r b s journal notes n k.run k.noted there is holds;
   around = k.around;
-  nothing_due = k.nothing_due;
   processors = k.processors;
   vcpus = k.vcpus;
 }
-
--- ---- what is due
-
-due-set : (dues : List (Option Wish)) (p r : ℕ) → get_or dues r None ≡ None → get_or (set dues p None) r None ≡ None
-due-set [] p r is = refl
-due-set (x ∷ dues) zero zero is = refl
-due-set (x ∷ dues) zero (suc r) is = is
-due-set (x ∷ dues) (suc p) zero is = is
-due-set (x ∷ dues) (suc p) (suc r) is = due-set dues p r is
-
-due-map : (change : Option Wish → Option Wish) → change None ≡ None → (dues : List (Option Wish)) (r : ℕ) → get_or dues r None ≡ None → get_or (map change dues) r None ≡ None
-due-map change none [] r is = refl
-due-map change none (x ∷ dues) zero is = ap change is ∙ none
-due-map change none (x ∷ dues) (suc r) is = due-map change none dues r is
-
--- a policy that is off chooses nothing
-chooses-none : (policy : Policy) (node : ℕ) (m : Misses) → IsOff policy → choice policy node m ≡ None
-chooses-none policy node m off = (λ i. choice (record { migrate = off.0 i; replicate = off.1 i }) node m)
-
-nothing-chosen : (policy : Policy) (q node : ℕ) (m : Misses) → IsOff policy → chosen policy q node m ≡ None
-nothing-chosen policy q node m off = ap (option_map (λ (kind : MoveKind). record { page = q; kind = kind; node = node })) (chooses-none policy node m off)
-
-stays-none : (b : Bool) (wish : Option Wish) → wish ≡ None → (if b then wish else None) ≡ None
-stays-none true wish is = is
-stays-none false wish is = refl
-
-due-noted : (s : GuestState) (p : ℕ) (access : DataAccess) → IsOff s.around.policy → ((r : ℕ) → due_on s r ≡ None) → (r : ℕ) → due_on (data_noted p access s) r ≡ None
-due-noted s p at_data.NoData off none r = none r
-due-noted s p (at_data.Load page frame) off none r =
-    ap (λ wish. get_or (set s.due p (due_after wish (due_on s p))) r None) (stays-none (is_miss s p frame.0) _ (nothing-chosen s.around.policy page.0 _ (misses_after s p page.0 frame.0 false) off))
-    ∙ ap (λ wish. get_or (set s.due p wish) r None) (none p) ∙ due-set s.due p r (none r)
-due-noted s p (at_data.Store page frame) off none r =
-    ap (λ wish. get_or (set s.due p (due_after wish (due_on s p))) r None) (stays-none (is_miss s p frame.0) _ (nothing-chosen s.around.policy page.0 _ (misses_after s p page.0 frame.0 true) off))
-    ∙ ap (λ wish. get_or (set s.due p wish) r None) (none p) ∙ due-set s.due p r (none r)
-
-act-due : (s : GuestState) (p v : ℕ) (act : Act) → (act_done s p v act).due ≡ s.due
-act-due s p v (StoresTo q) = refl
-act-due s p v (ReadsDisk b q) = refl
-act-due s p v (WritesDisk b q) = refl
-act-due s p v (SendsPage q length to) = refl
-act-due s p v (WritesEntry index) = refl
-act-due s p v NoAct = refl
 
 act-end : (s : GuestState) (p v : ℕ) (act : Act) → (act_done s p v act).end ≡ s.end
 act-end s p v (StoresTo q) = refl
@@ -139,43 +86,8 @@ act-end s p v (SendsPage q length to) = refl
 act-end s p v (WritesEntry index) = refl
 act-end s p v NoAct = refl
 
--- ---- each entry
-
-pub load-leaves : (s t : GuestState) (p : ProcId) (v : VcpuId) → Loads s p.0 v.0 t → ((r : ℕ) → due_on s r ≡ None) → Leaves s (Load p v) t
-load-leaves s t p v row none = record { row = row; due = λ r. ap (λ x. due_on x r) row.after ∙ none r }
-
-pub unload-leaves : (s t : GuestState) (p : ProcId) → Unloads s p.0 t → ((r : ℕ) → due_on s r ≡ None) → Leaves s (Unload p) t
-unload-leaves s t p row none = record { row = row; due = λ r. ap (λ x. due_on x r) row.after ∙ due-set s.due p.0 r (none r) }
-
-pub direct-leaves : (s t : GuestState) (p : ProcId) (v : VcpuId) → Steps s p.0 v.0 t → IsOff s.around.policy → ((r : ℕ) → due_on s r ≡ None) → Leaves s (Direct p v) t
-direct-leaves s t p v row off none = record { row = row; due = λ r. ap (λ x. due_on x r) row.after ∙ due-noted _ p.0 _ off none r }
-
-pub refill-leaves : (s t : GuestState) (p : ProcId) → Refills s p.0 t → ((r : ℕ) → due_on s r ≡ None) → Leaves s (Refill p) t
-refill-leaves s t p row none = record { row = row; due = λ r. ap (λ x. due_on x r) row.after ∙ none r }
-
-pub emulate-leaves : (s t : GuestState) (p : ProcId) (v : VcpuId) → Emulates s p.0 v.0 t → ((r : ℕ) → due_on s r ≡ None) → Leaves s (Emulate p v) t
-emulate-leaves s t p v row none = record {
-  row = inl row;
-  due = λ r. ap (λ x. due_on x r) row.after ∙ ap (λ l. get_or l r None) (act-due s p.0 v.0 _) ∙ none r;
-}
-
 pub emulate-end : (s t : GuestState) (p v : ℕ) → Emulates s p v t → t.end ≡ None
 emulate-end s t p v row = ap (λ x. x.end) row.after ∙ act-end s p v _ ∙ row.traps.goes_on.not_ended
-
-pub begin-leaves : (s t : GuestState) (q : Ppn) (kind : MoveKind) (node : NodeId) (by : By) → Begins s q.0 kind node.0 by t → ((r : ℕ) → due_on s r ≡ None) → Leaves s (Begin q kind node by) t
-begin-leaves s t q kind node by row none = record { row = row; due = λ r. ap (λ x. due_on x r) row.after ∙ due-map (without_due q.0) refl s.due r (none r) }
-
-pub ack-leaves : (s t : GuestState) (p : ProcId) (q : Ppn) → Acks s p.0 q.0 t → ((r : ℕ) → due_on s r ≡ None) → Leaves s (Ack p q) t
-ack-leaves s t p q row none = record { row = row; due = λ r. ap (λ x. due_on x r) row.after ∙ none r }
-
-pub finish-leaves : (s t : GuestState) (q : Ppn) → Finishes s q.0 t → ((r : ℕ) → due_on s r ≡ None) → Leaves s (Finish q) t
-finish-leaves s t q row none = record { row = inl row; due = λ r. ap (λ x. due_on x r) row.after ∙ due-map (without_due q.0) refl s.due r (none r) }
-
-pub receive-leaves : (s t : GuestState) (k : ℕ) → Receives s k t → ((r : ℕ) → due_on s r ≡ None) → Leaves s (PacketIn k) t
-receive-leaves s t k row none = record { row = inl row; due = λ r. ap (λ x. due_on x r) row.after ∙ none r }
-
-pub end-leaves : (s t : GuestState) (end : End) → Ends s end t → ((r : ℕ) → due_on s r ≡ None) → Leaves s (Ending end) t
-end-leaves s t end row none = record { row = row; due = λ r. ap (λ x. due_on x r) row.after ∙ due-map (without_moving s.pages) refl s.due r (none r) }
 
 -- ---- what is loaded
 

@@ -22,6 +22,8 @@ pub mod CauseLemmas
 pub mod MoveLemmas
 pub mod OpenCounts
 pub mod GainLemmas
+pub mod DueLemmas
+pub mod ActLemmas
 pub mod AskLemmas
 pub mod PacketLemmas
 pub mod DoneLemmas

@@ -2,7 +2,7 @@
 use Rattle.std.specs.Prelude.{◌≡◌, ℕ, ◌<◌, ◌≤◌, List, length, None}
 use Rattle.base_words.specs.declared.events.Event.{Event}
 use Rattle.shootdown.specs.declared.view.SidedNote.{SidedNote}
-use Rattle.isolation_law.specs.GuestState.{GuestState, due_on}
+use Rattle.isolation_law.specs.GuestState.{GuestState}
 use Rattle.isolation_law.specs.Phases.{GoesOn}
 use Rattle.isolation_law.specs.Run.{Run}
 use Rattle.isolation_law.specs.Start.{Boot, IsBoot, start as started}
@@ -15,13 +15,11 @@ use Rattle.guest_core.specs.Noting.{IsNoted}
 use Rattle.guest_core.specs.Using.{AreUses}
 use Rattle.guest_core.specs.Wiring.{IsWired, Posted}
 
--- The journal is a run from the guest's start to its state, and the seat's notes are in step with both. No choice of a policy is due, as
--- there is no policy yet.
+-- The journal is a run from the guest's start to its state, and the seat's notes are in step with both.
 pub record Kept (b : Boot) (s : GuestState) (journal : List Event) (notes : List SidedNote) : Type 0 where
   pub run : Run (started b) journal s
   pub noted : IsNoted s journal notes
   pub around : s.around ≡ b.around
-  pub nothing_due : (r : ℕ) → due_on s r ≡ None
   pub processors : length s.processors ≡ length b.around.processors
   pub vcpus : length s.vcpus ≡ b.vcpus
 
@@ -36,7 +34,6 @@ pub record IsKept (g : Parts) : Type 0 where
   pub frames : HasFrames (state_of g.course) g.holder.view
   pub used : AreUses (state_of g.course) g.uses
   pub at_home : g.start.around.home < length g.start.around.nodes
-  pub no_policy : (g.start.around.policy.migrate ≡ 0) × (g.start.around.policy.replicate ≡ 0)
   pub owed : entries_due (state_of g.course) ≤ g.journal.room
   pub few_guests : length g.start.around.homes ≤ 8
   pub wired : IsWired g.wiring.wires.value g.wiring.passes g.start.around

@@ -12,6 +12,7 @@ pub mod Making
 pub mod MoveCalls
 pub mod Frames
 pub mod GuestCalls
+pub mod AskCalls
 pub mod PacketCalls
 pub mod Records
 pub mod TurnParts

@@ -1,5 +1,5 @@
 -- What calls do for moves of pages: they acknowledge and finish them, begin them, wait for them, and note those that can't be begun.
-use Rattle.std.specs.Prelude.{◌≡◌, ◌⊎◌, ℕ, suc, List, [], ◌∷◌, ◌++◌, length, map, Bool, true, false, if◌then◌else◌, Option, Some, None, Result, Ok, Err}
+use Rattle.std.specs.Prelude.{◌≡◌, ◌≢◌, ◌⊎◌, ℕ, suc, ◌<◌, List, [], ◌∷◌, ◌++◌, length, map, Bool, true, false, if◌then◌else◌, Option, Some, None, Result, Ok, Err}
 use Rattle.std.specs.declared.alloc.AllocError.{AllocError}
 use Rattle.base_words.specs.Membership.{HasNone}
 use Rattle.base_words.specs.declared.ids.CellId.{CellId}
@@ -8,7 +8,8 @@ use Rattle.base_words.specs.declared.ids.ProcId.{ProcId}
 use Rattle.base_words.specs.declared.ids.VcpuId.{VcpuId}
 use Rattle.base_words.specs.declared.events.Event.{Event}
 use Rattle.base_words.specs.declared.events.Event.TheVariants.{Begin, Ack, Finish, Skip}
-use Rattle.base_words.specs.declared.moves.By.TheVariants.{Plan, Step}
+use Rattle.base_words.specs.declared.moves.By.{By}
+use Rattle.base_words.specs.declared.moves.By.TheVariants.{Plan, Due, Step, Packet}
 use Rattle.base_words.specs.declared.moves.MoveKind.{MoveKind}
 use Rattle.base_words.specs.declared.moves.MoveKind.TheVariants.{Migrate, Replicate, Collapse}
 use Rattle.frame_words.specs.declared.view.View.{View}
@@ -22,8 +23,9 @@ use Rattle.shootdown.specs.declared.notes.Note.{Note}
 use Rattle.isolation_law.specs.Causes.{first_cause, seeks_frame}
 use Rattle.base_words.specs.declared.events.End.TheVariants.{Budget}
 use Rattle.isolation_law.specs.EndRows.{Ends}
-use Rattle.isolation_law.specs.GuestState.{GuestState, page}
+use Rattle.isolation_law.specs.GuestState.{GuestState, page, due_on}
 use Rattle.isolation_law.specs.Parts.{Wish, Cause, Ended, DeadCell, Shared, Replicated, SameNode, NoReplica, NoFrame}
+use Rattle.isolation_law.specs.Phases.{MayAct}
 use Rattle.isolation_law.specs.Run.{Run}
 use Rattle.isolation_law.specs.StepAct.{at_hand}
 use Rattle.isolation_law.specs.Surroundings.{Surroundings}
@@ -54,6 +56,10 @@ pub record FinishesLowest (old : Monitored) (p : ProcId) (q : Ppn) (new : Monito
   pub acknowledged : HoldsNowhere (waits_for p.0) old.state.pages
   pub lowest : IsLowest is_ready old.state.pages q.0
   pub makes : MakesAlone old (Finish q ∷ []) new
+
+-- who might act may still
+abbrev pub StillActs : Monitored → Monitored → Type 0
+StillActs old new = (p : ℕ) → MayAct old.state p → MayAct new.state p
 
 -- ---- a step that meets a move
 
@@ -88,14 +94,27 @@ pub record BeginsForStep (old : Monitored) (p : ProcId) (v : VcpuId) (q : Ppn) (
 
 -- ---- a move that is asked for
 
--- the plan may ask for a move to a node, and for a collapse with the home node
+-- a move to a node may be asked for, and a collapse with the home node
 abbrev pub IsPlanned : Surroundings → Wish → Type 0
 IsPlanned w wish = (wish.kind ≡ Migrate) ⊎ ((wish.kind ≡ Replicate) ⊎ ((wish.kind ≡ Collapse) × (wish.node ≡ w.home)))
 
--- the plan asks for it, and it has begun
-abbrev pub BeginsMove : Monitored → ProcId → Wish → Monitored → Type 0
-BeginsMove old p wish new =
-    MakesAlone old (Begin (record { 0 = wish.page }) wish.kind (record { 0 = wish.node }) (Plan p) ∷ []) new
+-- a guest may be asked for this move: it has the page, until its end, and the machine has the node
+pub record MayAsk (g : Monitored) (wish : Wish) : Type 0 where
+  pub is_page : g.state.end ≡ None → wish.page < g.start.image.pages
+  pub is_node : wish.node < length g.start.around.nodes
+  pub planned : IsPlanned g.start.around wish
+
+-- who asks for it through a processor: the policy, where just that is due there, and else the plan
+abbrev pub AsksBy : GuestState → ProcId → Wish → By → Type 0
+AsksBy s p wish (Plan q) = (q ≡ p) × (due_on s p.0 ≢ Some wish)
+AsksBy s p wish (Due q) = (q ≡ p) × (due_on s p.0 ≡ Some wish)
+AsksBy s p wish (Step q) = ⊥
+AsksBy s p wish Packet = ⊥
+
+-- it was asked for, and has begun
+abbrev pub BeginsMove : Monitored → By → Wish → Monitored → Type 0
+BeginsMove old by wish new =
+    MakesAlone old (Begin (record { 0 = wish.page }) wish.kind (record { 0 = wish.node }) by ∷ []) new
 
 -- the machine's frames, as a guest is told of them
 pub record IsLayoutOf (w : Surroundings) (layout : Layout) : Type 0 where
@@ -120,16 +139,16 @@ SeesCause w lends home node NoReplica old new = new ≡ old
 SeesCause w lends home node (NoFrame list) old new = (shown : List Entry) × (list ≡ map shown_of shown) × NodeShows w lends home node shown old new
 
 -- what was asked for is noted with this cause
-pub record NotesSkip (old : Monitored) (p : ProcId) (wish : Wish) (cause : Cause) (new : Monitored) : Type 0 where
+pub record NotesSkip (old : Monitored) (by : By) (wish : Wish) (cause : Cause) (new : Monitored) : Type 0 where
   pub makes : MakesAlone old (Skip (length old.state.skips) ∷ []) new
-  pub noted : new.state.skips ≡ old.state.skips ++ record { wish = wish; by = Plan p; cause = cause } ∷ []
+  pub noted : new.state.skips ≡ old.state.skips ++ record { wish = wish; by = by; cause = cause } ∷ []
   pub view : new.view ≡ old.view
 
 -- it can't be begun, for a cause that was looked for
-pub record SkipsMove (lends : List ℕ) (home : ℕ) (old : Monitored) (p : ProcId) (wish : Wish) (new : Monitored) : Type 0 where
+pub record SkipsMove (lends : List ℕ) (home : ℕ) (old : Monitored) (by : By) (wish : Wish) (new : Monitored) : Type 0 where
   pub cause : Cause
   pub makes : MakesAlone old (Skip (length old.state.skips) ∷ []) new
-  pub noted : new.state.skips ≡ old.state.skips ++ record { wish = wish; by = Plan p; cause = cause } ∷ []
+  pub noted : new.state.skips ≡ old.state.skips ++ record { wish = wish; by = by; cause = cause } ∷ []
   pub sees : SeesCause old.state.around lends home wish.node cause old.view new.view
 
 -- the page has a move, and the guest hasn't ended
@@ -147,17 +166,26 @@ pub record WantsTarget (old : Monitored) (p : ProcId) (wish : Wish) (new : Monit
   pub seeks : seeks_frame wish.kind ≡ true
   pub rests : Rests old new
 
-abbrev pub AsksMove : List ℕ → ℕ → Monitored → ProcId → Wish → Monitored → Result Asked AllocError → Type 0
-AsksMove lends home old p wish new (Ok asked.Begun) = BeginsMove old p wish new
-AsksMove lends home old p wish new (Ok asked.Skipped) = SkipsMove lends home old p wish new
-AsksMove lends home old p wish new (Ok (asked.Busy waiting)) = IsBusy old wish.page waiting new
-AsksMove lends home old p wish new (Err e) = WantsTarget old p wish new
+-- what came of it, where a processor asked
+abbrev pub AsksMove : List ℕ → ℕ → Monitored → ProcId → By → Wish → Monitored → Result Asked AllocError → Type 0
+AsksMove lends home old p by wish new (Ok asked.Begun) = BeginsMove old by wish new
+AsksMove lends home old p by wish new (Ok asked.Skipped) = SkipsMove lends home old by wish new
+AsksMove lends home old p by wish new (Ok (asked.Busy waiting)) = IsBusy old wish.page waiting new
+AsksMove lends home old p by wish new (Err e) = WantsTarget old p wish new
 
+-- what is told of an ask by the plan, unless the page is busy or memory was wanting
 abbrev pub told_of_ask : Wish → Result Asked AllocError → List Note
 told_of_ask wish (Ok asked.Begun) = note_of wish ∷ []
 told_of_ask wish (Ok asked.Skipped) = note_of wish ∷ []
 told_of_ask wish (Ok (asked.Busy waiting)) = []
 told_of_ask wish (Err e) = []
+
+-- of one by the policy nothing is told
+abbrev pub told_by : By → Wish → Result Asked AllocError → List Note
+told_by (Plan p) wish answer = told_of_ask wish answer
+told_by (Due p) wish answer = []
+told_by (Step p) wish answer = []
+told_by Packet wish answer = []
 
 -- ---- moves that are done
 

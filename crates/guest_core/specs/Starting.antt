@@ -41,7 +41,6 @@ pub record MayStart (around : Around) (image : Image) (vcpus : ℕ) (frames : Li
   pub few_vcpus : vcpus ≤ 4
   pub few_pages : length image.pages ≤ 2048
   pub backed : length frames ≡ length image.pages
-  pub no_policy : (around.site.policy.migrate ≡ 0) × (around.site.policy.replicate ≡ 0)
   pub few_processors : length around.site.processors ≤ most_processors
   pub few_guests : length around.site.homes ≤ 8
   pub few_frames : around.site.shape.nodes * around.site.shape.frames < 2 ^ 32

@@ -9,7 +9,8 @@ ghost use Rattle.shootdown.specs.declared.notes.Note.TheVariants.{Made};
 ghost use Rattle.shootdown.specs.Notes.{with_side};
 ghost use Rattle.isolation_law.specs.CellUse.{uses as uses_cell};
 ghost use Rattle.isolation_law.specs.Surroundings.{home_cell};
-ghost use Rattle.isolation_law.specs.GuestState.{processor as processor_at};
+ghost use Rattle.isolation_law.specs.GuestState.{due_on, processor as processor_at};
+ghost use Rattle.isolation_law.specs.Phases.{MayAct};
 ghost use Rattle.guest_core.specs.Starting.{booted_with, MayStart};
 ghost use Rattle.guest_core.specs.Holding.{HasFrames, HoldsFor};
 ghost use Rattle.guest_core.specs.GuestView.{IsAtStart, IsSameGuest, AreOf, shared_by};
@@ -17,11 +18,13 @@ ghost use Rattle.guest_core.specs.Noting.{IsNoted, shows_loaded};
 ghost use Rattle.guest_core.specs.GuestCalls.{Leaves, LoadsVcpu, told_of_load, MayNote, MayCall, processor_of, loaded_on, Turns, told_of_turn};
 ghost use Rattle.guest_core.specs.Making.{Makes, MakesAlone, Stays};
 ghost use Rattle.guest_course.specs.Errands.{MustWait};
-ghost use Rattle.guest_core.specs.MoveCalls.{finishing, AsksMove, EndsByPlan, FinishesReady, IsPlanned, told_of_ask};
+ghost use Rattle.guest_core.specs.AskCalls.{IsAsked};
+ghost use Rattle.guest_core.specs.MoveCalls.{finishing, EndsByPlan, FinishesReady, MayAsk, StillActs};
 ghost use Rattle.guest_core.specs.PacketCalls.{IsArmed, KeepsEnds, SameSends, TakesPacket};
 ghost use Rattle.guest_core.specs.Records.{IsRecord};
 ghost use Rattle.guest_core.specs.Wiring.{IsWired, Posted};
-ghost use Rattle.guest_course.specs.CourseView.{surroundings};
+ghost use Rattle.guest_course.specs.CourseView.{due_of, surroundings};
+ghost use Rattle.guest_course.specs.SkipView.{wanting};
 ghost use Rattle.wire_queue.specs.ListSteps.{HasTaken};
 ghost use Rattle.wire_queue.specs.PassLists.{IsUnused};
 
@@ -31,7 +34,7 @@ use base_words::{CellId, End, FrameList, InputList, MoveKind, NodeId, Ppn, ProcI
 use cow_disk::Disk;
 use elf_image::Image;
 use frame_words::Holder;
-use guest_course::Around;
+use guest_course::{Around, Wish};
 use shootdown::{GuestSeat, ProcToken};
 use std::alloc::{AllocError, Global};
 use std::marker::Model;
@@ -120,14 +123,15 @@ impl Guest {
         self.parts.make_room()
     }
 
-    /// Tells that what a token noted of this guest is what the guest's seat noted of the token's processor, and that it shows what is
-    /// loaded there.
+    /// Tells that what a token noted of this guest is what the guest's seat noted of the token's processor, that it shows what is loaded
+    /// there, and that nothing is due where nothing is loaded.
     #[inline]
     pub fn agree(&mut self, token: &mut ProcToken)
         requires { MayNote self.old token.old }
         ensures same { (self.new ≡ self.old) × (token.new ≡ token.old) }
         ensures notes { with_side self.old.number token.old.notes ≡ with_side token.old.number self.old.notes }
         ensures loaded { shows_loaded (with_side self.old.number token.old.notes) ≡ (processor_at self.old.state token.old.number).loaded }
+        ensures lapsed { (processor_at self.old.state token.old.number).loaded ≡ None → due_on self.old.state token.old.number ≡ None }
     {
         self.parts.agree(token);
     }
@@ -164,7 +168,19 @@ impl Guest {
         self.parts.unload(token);
     }
 
-    /// The virtual processor that is loaded on the token's processor has its turn: `GuestEnded` exactly where the guest has ended; else
+    /// The policy's choice that is due on a processor, which the processor has to ask for before its next turn; None exactly where there is
+    /// none. It may be asked for.
+    #[inline]
+    pub fn due(&self, processor: ProcId) -> Option<Wish>
+        requires { processor.0 < length self.now.start.around.processors }
+        ensures due { due_of result ≡ due_on self.now.state processor.0 }
+        ensures may { (wish : Wish) → result ≡ Some wish → MayAsk self.now (wanting wish) }
+    {
+        self.parts.due(processor)
+    }
+
+    /// The virtual processor that is loaded on the token's processor has its turn, where no choice of the policy is due on it but of a page
+    /// with a move: `GuestEnded` exactly where the guest has ended; else
     /// `Acked` where a page waits for the processor, with the lowest one; else `Finished` where a move waits for nobody, with the lowest page
     /// that has one; else `VcpuHalted` exactly where it has halted; else one step of its own or one refill, or what the step meets of moves:
     /// `Waits` where its page has one, `Begun` where the page needs one first. What a step sends to another guest is put on their
@@ -182,13 +198,14 @@ impl Guest {
         requires room { 2 ≤ self.old.room }
         requires shared { AreOf (shared_by resources.now) self.old }
         requires loaded { (processor_at self.old.state token.old.number).loaded ≢ None }
+        requires acts { MayAct self.old.state token.old.number }
         ensures turns { Turns self.old (processor_of token.old) (loaded_on self.old token.old) self.new result }
         ensures leaves { Leaves self.old token.old (told_of_turn (processor_of token.old) (loaded_on self.old token.old) result) self.new token.new }
     {
         self.parts.turn(rt, alloc, token, resources)
     }
 
-    /// The plan asks for a move of a page through the token's processor. `Busy` exactly where the guest hasn't ended and the page has a move;
+    /// A move of a page is asked for through the token's processor: by the policy, where just that is due there, and else by the plan. `Busy` exactly where the guest hasn't ended and the page has a move;
     /// else `Skipped` where a cause keeps it from being begun, of which the first is noted with what was asked for, or where the node has no
     /// frame for it, which is noted with what the node showed; else it begins. Want of memory comes only where a frame is sought, and then
     /// nothing has changed.
@@ -204,11 +221,8 @@ impl Guest {
         requires may { MayCall self.old token.old }
         requires room { 2 ≤ self.old.room }
         requires shared { AreOf (shared_by resources.now) self.old }
-        requires page { page.0 < self.old.start.image.pages }
-        requires node { node.0 < length self.old.start.around.nodes }
-        requires planned { IsPlanned self.old.start.around (record { page = page.0; kind = kind; node = node.0 }) }
-        ensures asks { AsksMove resources.now.table.now.terms.lends (home_cell self.old.start.around) self.old (processor_of token.old) (record { page = page.0; kind = kind; node = node.0 }) self.new result }
-        ensures leaves { Leaves self.old token.old (told_of_ask (record { page = page.0; kind = kind; node = node.0 }) result) self.new token.new }
+        requires may_ask { MayAsk self.old (record { page = page.0; kind = kind; node = node.0 }) }
+        ensures { IsAsked resources.now.table.now.terms.lends (home_cell self.old.start.around) self.old token.old (record { page = page.0; kind = kind; node = node.0 }) self.new token.new result }
     {
         self.parts
             .ask_move(alloc, token, page, kind, node, resources)
@@ -256,6 +270,7 @@ impl Guest {
         requires shared { AreOf (shared_by resources.now) self.old }
         ensures takes { TakesPacket self.old self.new result }
         ensures sends { SameSends self.old.passes self.new.passes }
+        ensures acts { StillActs self.old self.new }
         ensures same { IsSameGuest self.old self.new }
         ensures room { self.old.room ≤ self.new.room + 2 }
     {

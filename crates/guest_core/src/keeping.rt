@@ -1,9 +1,9 @@
 //! Room for calls, and what the notes tell.
-ghost use Rattle.std.specs.Prelude.{◌≡◌, ◌<◌, ◌≤◌, ◌↔◌, ℕ, IsTrue, OnOk, length};
+ghost use Rattle.std.specs.Prelude.{◌≡◌, ◌<◌, ◌≤◌, ◌↔◌, ℕ, None, IsTrue, OnOk, length};
 ghost use Rattle.base_words.specs.Limits.{most_processors};
 ghost use Rattle.guest_course.specs.Errands.{MustWait};
 ghost use Rattle.shootdown.specs.Notes.{with_side};
-ghost use Rattle.isolation_law.specs.GuestState.{processor as processor_at};
+ghost use Rattle.isolation_law.specs.GuestState.{due_on, processor as processor_at};
 ghost use Rattle.guest_core.specs.GuestView.{guest_of, IsSameGuest};
 ghost use Rattle.guest_core.specs.Kept.{IsKept};
 ghost use Rattle.guest_core.specs.Noting.{shows_loaded};
@@ -12,6 +12,7 @@ ghost use Rattle.guest_core.specs.Making.{Stays};
 
 use crate::parts::Parts;
 use base_words::{MOST_PROCESSORS, Ppn, ProcId};
+use isolation_law::dues_fit;
 use shootdown::{ProcToken, agree};
 use std::alloc::AllocError;
 
@@ -36,8 +37,8 @@ impl Parts {
         self.course.reserve()
     }
 
-    /// Tells that what a token noted of this guest is what the guest's seat noted of the token's processor, and that it shows what is
-    /// loaded there.
+    /// Tells that what a token noted of this guest is what the guest's seat noted of the token's processor, that it shows what is loaded
+    /// there, and that nothing is due where nothing is loaded.
     #[inline]
     pub(crate) fn agree(&mut self, token: &mut ProcToken)
         requires kept { IsKept self.old }
@@ -45,7 +46,9 @@ impl Parts {
         ensures same { (self.new ≡ self.old) × (token.new ≡ token.old) }
         ensures notes { with_side (guest_of self.old).number token.old.notes ≡ with_side token.old.number (guest_of self.old).notes }
         ensures loaded { shows_loaded (with_side (guest_of self.old).number token.old.notes) ≡ (processor_at (guest_of self.old).state token.old.number).loaded }
+        ensures lapsed { (processor_at (guest_of self.old).state token.old.number).loaded ≡ None → due_on (guest_of self.old).state token.old.number ≡ None }
     {
+        dues_fit();
         agree(token, &mut self.seat);
     }
 

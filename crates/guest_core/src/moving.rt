@@ -3,10 +3,11 @@ ghost use Rattle.std.specs.Prelude.{◌≡◌, ◌<◌, ◌≤◌, ◌+◌, [], 
 ghost use Rattle.base_words.specs.declared.events.Event.TheVariants.{Ack, Finish};
 ghost use Rattle.page_moves.specs.Ending.{Awaits, IsReady};
 ghost use Rattle.isolation_law.specs.GuestState.{processor as processor_at};
+ghost use Rattle.isolation_law.specs.Phases.{MayAct};
 ghost use Rattle.guest_core.specs.GuestView.{guest_of, IsSameGuest, AreOf, shared_by};
 ghost use Rattle.guest_core.specs.Kept.{IsKept};
 ghost use Rattle.guest_core.specs.Making.{MakesAlone};
-ghost use Rattle.guest_core.specs.MoveCalls.{FinishesReady};
+ghost use Rattle.guest_core.specs.MoveCalls.{FinishesReady, StillActs};
 
 use crate::frames::give_back;
 use crate::laws::laws;
@@ -26,6 +27,7 @@ impl Parts {
         requires processor { processor.0 < length (guest_of self.old).state.processors }
         requires page { page.0 < length (guest_of self.old).state.pages }
         requires awaits { Awaits self.old.course.pmap page.0 processor.0 }
+        requires acts { MayAct (guest_of self.old).state processor.0 }
         ensures kept { IsKept self.new }
         ensures makes { MakesAlone (guest_of self.old) (Ack processor page ∷ []) (guest_of self.new) }
         ensures notes { self.new.seat ≡ self.old.seat }
@@ -50,6 +52,7 @@ impl Parts {
         ensures kept { IsKept self.new }
         ensures makes { MakesAlone (guest_of self.old) (Finish page ∷ []) (guest_of self.new) }
         ensures notes { self.new.seat ≡ self.old.seat }
+        ensures acts { StillActs (guest_of self.old) (guest_of self.new) }
         ensures hand { (guest_of self.new).state.hand ≡ (guest_of self.old).state.hand }
         ensures same { IsSameGuest (guest_of self.old) (guest_of self.new) }
         ensures room { (guest_of self.old).room ≤ (guest_of self.new).room }
@@ -75,6 +78,7 @@ impl Parts {
         ensures kept { IsKept self.new }
         ensures finishes { FinishesReady (guest_of self.old) page (guest_of self.new) result }
         ensures notes { self.new.seat ≡ self.old.seat }
+        ensures acts { StillActs (guest_of self.old) (guest_of self.new) }
         ensures hand { (guest_of self.new).state.hand ≡ (guest_of self.old).state.hand }
         ensures same { IsSameGuest (guest_of self.old) (guest_of self.new) }
         ensures room { (guest_of self.old).room ≤ (guest_of self.new).room }

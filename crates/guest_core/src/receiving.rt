@@ -7,6 +7,7 @@ ghost use Rattle.guest_course.specs.CourseRules.{IsWritable};
 ghost use Rattle.guest_course.specs.Hurdles.{NeedsMove};
 ghost use Rattle.guest_core.specs.GuestView.{guest_of, IsSameGuest, AreOf, shared_by};
 ghost use Rattle.guest_core.specs.Kept.{IsKept};
+ghost use Rattle.guest_core.specs.MoveCalls.{StillActs};
 ghost use Rattle.guest_core.specs.PacketCalls.{IsArmed, Fetches, KeepsEnds, SameSends, TakesPacket};
 
 use crate::laws::laws;
@@ -36,6 +37,7 @@ impl Parts {
         ensures kept { IsKept self.new }
         ensures fetches { Fetches (guest_of self.old) (guest_of self.new) }
         ensures sends { SameSends (guest_of self.old).passes (guest_of self.new).passes }
+        ensures acts { StillActs (guest_of self.old) (guest_of self.new) }
         ensures same { IsSameGuest (guest_of self.old) (guest_of self.new) }
         ensures room { (guest_of self.new).room ≡ (guest_of self.old).room }
     {
@@ -60,6 +62,7 @@ impl Parts {
         ensures kept { IsKept self.new }
         ensures takes { TakesPacket (guest_of self.old) (guest_of self.new) result }
         ensures passes { (guest_of self.new).passes ≡ (guest_of self.old).passes }
+        ensures acts { StillActs (guest_of self.old) (guest_of self.new) }
         ensures same { IsSameGuest (guest_of self.old) (guest_of self.new) }
         ensures room { (guest_of self.old).room ≤ (guest_of self.new).room + 2 }
     {
@@ -82,6 +85,7 @@ impl Parts {
         ensures kept { IsKept self.new }
         ensures takes { TakesPacket (guest_of self.old) (guest_of self.new) (Ok result) }
         ensures passes { (guest_of self.new).passes ≡ (guest_of self.old).passes }
+        ensures acts { StillActs (guest_of self.old) (guest_of self.new) }
         ensures same { IsSameGuest (guest_of self.old) (guest_of self.new) }
         ensures room { (guest_of self.old).room ≤ (guest_of self.new).room + 2 }
     {
@@ -108,6 +112,7 @@ impl Parts {
         ensures kept { IsKept self.new }
         ensures takes { TakesPacket (guest_of self.old) (guest_of self.new) (Ok result) }
         ensures passes { (guest_of self.new).passes ≡ (guest_of self.old).passes }
+        ensures acts { StillActs (guest_of self.old) (guest_of self.new) }
         ensures same { IsSameGuest (guest_of self.old) (guest_of self.new) }
         ensures room { (guest_of self.old).room ≤ (guest_of self.new).room + 2 }
     {
@@ -128,6 +133,7 @@ impl Parts {
         ensures kept { IsKept self.new }
         ensures takes { TakesPacket (guest_of self.old) (guest_of self.new) result }
         ensures passes { (guest_of self.new).passes ≡ (guest_of self.old).passes }
+        ensures acts { StillActs (guest_of self.old) (guest_of self.new) }
         ensures same { IsSameGuest (guest_of self.old) (guest_of self.new) }
         ensures room { (guest_of self.old).room ≤ (guest_of self.new).room + 2 }
     {
@@ -172,6 +178,7 @@ impl Parts {
         ensures kept { IsKept self.new }
         ensures takes { TakesPacket (guest_of self.old) (guest_of self.new) result }
         ensures sends { SameSends (guest_of self.old).passes (guest_of self.new).passes }
+        ensures acts { StillActs (guest_of self.old) (guest_of self.new) }
         ensures same { IsSameGuest (guest_of self.old) (guest_of self.new) }
         ensures room { (guest_of self.old).room ≤ (guest_of self.new).room + 2 }
     {
@@ -196,6 +203,7 @@ impl Parts {
         ensures kept { IsKept self.new }
         ensures takes { TakesPacket (guest_of self.old) (guest_of self.new) result }
         ensures sends { SameSends (guest_of self.old).passes (guest_of self.new).passes }
+        ensures acts { StillActs (guest_of self.old) (guest_of self.new) }
         ensures same { IsSameGuest (guest_of self.old) (guest_of self.new) }
         ensures room { (guest_of self.old).room ≤ (guest_of self.new).room + 2 }
     {

@@ -2,7 +2,7 @@
 ghost use Rattle.std.specs.Prelude.{◌≡◌, ◌≢◌, ◌<◌, ◌≤◌, ◌+◌, ◌++◌, None, Some, length};
 ghost use Rattle.frame_words.specs.Holders.{IsMade};
 ghost use Rattle.isolation_law.specs.GuestState.{processor as processor_at};
-ghost use Rattle.isolation_law.specs.Phases.{all_halted};
+ghost use Rattle.isolation_law.specs.Phases.{all_halted, MayAct};
 ghost use Rattle.guest_course.specs.CourseView.{state_of};
 ghost use Rattle.guest_course.specs.CourseRules.{IsSound};
 ghost use Rattle.guest_course.specs.StepCalls.{TrapsFor};
@@ -86,6 +86,7 @@ impl Parts {
         requires shared { AreOf (shared_by resources.now) (guest_of self.old) }
         requires loaded { (processor_at (guest_of self.old).state token.old.number).loaded ≡ Some vcpu.0 }
         requires runs { MayRun (guest_of self.old).state vcpu.0 }
+        requires acts { MayAct (guest_of self.old).state token.old.number }
         requires rest { IsAtRest (guest_of self.old).state token.old.number }
         requires traps { TrapsFor (guest_of self.old).state token.old.number vcpu.0 cause }
         ensures kept { IsKept self.new }
@@ -148,6 +149,7 @@ impl Parts {
         requires shared { AreOf (shared_by resources.now) (guest_of self.old) }
         requires loaded { (processor_at (guest_of self.old).state token.old.number).loaded ≡ Some vcpu.0 }
         requires runs { MayRun (guest_of self.old).state vcpu.0 }
+        requires acts { MayAct (guest_of self.old).state token.old.number }
         requires rest { IsAtRest (guest_of self.old).state token.old.number }
         ensures kept { IsKept self.new }
         ensures turns { Turns (guest_of self.old) (processor_of token.old) vcpu (guest_of self.new) result }
@@ -181,6 +183,7 @@ impl Parts {
         requires room { 2 ≤ (guest_of self.old).room }
         requires shared { AreOf (shared_by resources.now) (guest_of self.old) }
         requires loaded { (processor_at (guest_of self.old).state token.old.number).loaded ≢ None }
+        requires acts { MayAct (guest_of self.old).state token.old.number }
         ensures kept { IsKept self.new }
         ensures turns { Turns (guest_of self.old) (processor_of token.old) (loaded_on (guest_of self.old) token.old) (guest_of self.new) result }
         ensures leaves { Leaves (guest_of self.old) token.old (told_of_turn (processor_of token.old) (loaded_on (guest_of self.old) token.old) result) (guest_of self.new) token.new }

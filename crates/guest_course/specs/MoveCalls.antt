@@ -1,17 +1,16 @@
--- How a move begins that the plan asks for, or that a page needs before its bytes change.
+-- How a move begins that is asked for, by the plan or the policy, or that a page needs before its bytes change.
 use Rattle.std.specs.Prelude.{◌≡◌, ℕ, ◌<◌, length, None}
 use Rattle.base_words.specs.declared.moves.MoveKind.{MoveKind}
 use Rattle.private_machine.specs.Backing.{Change}
 use Rattle.private_machine.specs.PageMove.{kind_of, target_of}
 use Rattle.page_policy.specs.Pages.{AreCounters}
-use Rattle.isolation_law.specs.Causes.{first_cause}
 use Rattle.isolation_law.specs.GuestState.{GuestState, page}
-use Rattle.isolation_law.specs.MoveRows.{PlanAsks, Fits, LiesAlive}
+use Rattle.isolation_law.specs.MoveRows.{Fits, LiesAlive}
 use Rattle.isolation_law.specs.Parts.{Wish}
 use Rattle.isolation_law.specs.Phases.{GoesOn}
 use Rattle.guest_course.specs.declared.course.Course.{Course}
 
--- a move, and the processor and node for which the plan asks for it
+-- a move, and the node for which it is asked for
 abbrev pub wish_of : ℕ → Change → ℕ → Wish
 wish_of q change node = record { page = q; kind = kind_of change; node = node }
 
@@ -24,12 +23,10 @@ pub record HasPage (c : Course) (q : ℕ) : Type 0 where
   pub is_page : q < length c.pmap.pages
   pub counted : AreCounters (length c.pmap.pages) (length c.around.site.shape.cells) c.counters
 
--- the plan may ask so for a move: the page has none, no cause keeps it from being begun, and its frame fits
-pub record MayPlan (s : GuestState) (p q : ℕ) (change : Change) (node : ℕ) : Type 0 where
+-- a move of a page may begin: it has none, and its frame fits
+pub record MayBegin (s : GuestState) (q : ℕ) (change : Change) (node : ℕ) : Type 0 where
   pub goes_on : GoesOn s
   pub is_page : q < length s.pages
   pub rests : (page s q).move ≡ None
-  pub asks : PlanAsks s p (wish_of q change node)
-  pub no_cause : first_cause s p (wish_of q change node) ≡ None
   pub fits : Fits s node change None s.spares
   pub lives : LiesAlive s (target_of change)

@@ -1,6 +1,6 @@
 //! Moves of pages: how they begin, are acknowledged and end.
 ghost use Rattle.std.specs.Prelude.{◌≡◌, ◌<◌, ◌≤◌, ◌+◌, Some, None, length, map};
-ghost use Rattle.base_words.specs.declared.moves.By.TheVariants.{Plan};
+ghost use Rattle.base_words.specs.declared.moves.By.{By};
 ghost use Rattle.private_machine.specs.Backing.{Move, page_at};
 ghost use Rattle.private_machine.specs.PageMove.{kind_of, dropped};
 ghost use Rattle.private_machine.specs.SecondLevel.{seconds_without_page};
@@ -8,11 +8,11 @@ ghost use Rattle.pmap_table.specs.OpenMoves.{change_of, FitsChange};
 ghost use Rattle.pmap_table.specs.Ending.{numbers_of};
 ghost use Rattle.page_moves.specs.Ending.{Awaits, IsReady};
 ghost use Rattle.isolation_law.specs.LoadRows.{Acks};
-ghost use Rattle.isolation_law.specs.MoveRows.{Begins, Finishes, with_begun};
+ghost use Rattle.isolation_law.specs.MoveRows.{Asks, Begins, Finishes, with_begun};
 ghost use Rattle.isolation_law.specs.Phases.{GoesOn, MayAct};
 ghost use Rattle.guest_course.specs.CourseView.{surroundings, state_of};
 ghost use Rattle.guest_course.specs.CourseRules.{AllStand, IsSound};
-ghost use Rattle.guest_course.specs.MoveCalls.{HasPage, MayPlan};
+ghost use Rattle.guest_course.specs.MoveCalls.{HasPage, MayBegin, wish_of};
 ghost use Rattle.guest_course.specs.Packets.{SamePackets};
 ghost use Rattle.guest_course.specs.Rebacking.{Rebacked};
 
@@ -101,14 +101,15 @@ impl Course {
         self.clear_dues(page);
     }
 
-    /// Begins a move of a page without one that the plan asks for on a processor.
-    pub fn begin_planned(&mut self, processor: ProcId, page: Ppn, change: Change, node: NodeId)
+    /// Begins a move of a page without one to a node, for which somebody asks.
+    pub fn begin(&mut self, page: Ppn, change: Change, node: NodeId)
         requires sound { IsSound self.old }
-        requires may { MayPlan (state_of self.old) processor.0 page.0 (change_of change) node.0 }
+        requires may { MayBegin (state_of self.old) page.0 (change_of change) node.0 }
+        requires asked { (by : By) × Asks (state_of self.old) by (wish_of page.0 (change_of change) node.0) None }
         requires fits { FitsChange (page_at self.old.pmap.pages page.0) (change_of change) }
         requires room { 0 < self.old.pmap.room }
         ensures sound { IsSound self.new }
-        ensures begins { Begins (state_of self.old) page.0 (kind_of (change_of change)) node.0 (Plan processor) (state_of self.new) }
+        ensures begins { (by : By) → Asks (state_of self.old) by (wish_of page.0 (change_of change) node.0) None → Begins (state_of self.old) page.0 (kind_of (change_of change)) node.0 by (state_of self.new) }
         ensures opened { state_of self.new ≡ with_begun (state_of self.old) page.0 (change_of change) None (state_of self.old).spares }
         ensures goes_on { GoesOn (state_of self.new) }
         ensures print_room { self.new.devs.print_room ≡ self.old.devs.print_room }

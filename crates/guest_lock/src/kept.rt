@@ -1,20 +1,26 @@
 //! What lies under a guest's lock.
-ghost use Rattle.std.specs.Prelude.{◌≡◌, ◌≢◌, ◌⊎◌, ◌≤◌, ◌∷◌, [], None, Some, OnOk, slice_get};
+ghost use Rattle.std.specs.Prelude.{◌≡◌, ◌≢◌, ◌⊎◌, ◌<◌, ◌≤◌, ◌∷◌, [], None, Some, OnOk, length, slice_get};
+ghost use Rattle.std.specs.Bool.{OnTrue};
 ghost use Rattle.base_words.specs.declared.events.End.TheVariants.{Budget};
 ghost use Rattle.base_words.specs.declared.events.Event.TheVariants.{Unload};
 ghost use Rattle.shootdown.specs.declared.notes.Note.TheVariants.{Made};
 ghost use Rattle.guest_core.specs.GuestView.{AreOf, shared_by};
 ghost use Rattle.guest_core.specs.GuestCalls.{processor_of, told_of_turn};
 ghost use Rattle.guest_lock.specs.declared.burst.Stop.TheVariants.{Paused};
-ghost use Rattle.guest_core.specs.MoveCalls.{told_of_ask};
+ghost use Rattle.isolation_law.specs.GuestState.{due_on};
+ghost use Rattle.isolation_law.specs.Start.{Boot};
+ghost use Rattle.isolation_law.specs.Phases.{MayAct};
+ghost use Rattle.guest_course.specs.SkipView.{wanting};
+ghost use Rattle.guest_core.specs.MoveCalls.{told_of_ask, MayAsk, StillActs};
 ghost use Rattle.guest_lock.specs.Fits.{Fits, HasVcpu, MayAskOf};
 ghost use Rattle.guest_lock.specs.Receiving.{HasCalled, HasCalledOften};
 ghost use Rattle.guest_lock.specs.Told.{with_told, shown, vcpu_shown, told_of_loading, AreInStep, Bursts};
 
 use crate::Starts;
 use crate::burst::{BURST_TURNS, Burst, Stop};
-use base_words::{MoveKind, NodeId, Ppn, VcpuId};
+use base_words::{MoveKind, NodeId, Ppn, ProcId, VcpuId};
 use guest_core::{Asked, Guest, Loaded, Packeted, Resources, Turn};
+use guest_course::Wish;
 use outside_io::{Gate, GatePoint};
 use shootdown::ProcToken;
 use std::alloc::{AllocError, Global};
@@ -86,6 +92,7 @@ impl<N: Starts, const G: u8> Kept<N, G> {
         ensures called { HasCalled self.old.guest self.new.guest }
         ensures room { OnOk result (2 ≤ self.new.guest.room) }
         ensures notes { self.new.guest.notes ≡ self.old.guest.notes }
+        ensures acts { StillActs self.old.guest self.new.guest }
     {
         let packeted = self.guest.packet_in(rt, alloc, resources)?;
         self.guest.make_room()?;
@@ -107,6 +114,7 @@ impl<N: Starts, const G: u8> Kept<N, G> {
         ensures called { HasCalledOften self.old.guest self.new.guest }
         ensures room { OnOk result (2 ≤ self.new.guest.room) }
         ensures notes { self.new.guest.notes ≡ self.old.guest.notes }
+        ensures acts { StillActs self.old.guest self.new.guest }
     {
         for _call in 0..PACKET_CALLS {
             match self.receive_once(rt, alloc, resources)? {
@@ -118,6 +126,71 @@ impl<N: Starts, const G: u8> Kept<N, G> {
             }
         }
         Ok(())
+    }
+
+    /// Asks for the move that the policy chose and that is due on the token's processor, of which the token is told nothing. The processor
+    /// may act then, and there is room for a call.
+    #[cold]
+    #[inline(never)]
+    fn ask_due(
+        &mut self,
+        alloc: Global,
+        token: &mut ProcToken,
+        wish: Wish,
+        resources: &Resources,
+    ) -> Result<(), AllocError>
+        requires token { Fits N.starts N.board token.old }
+        requires room { 2 ≤ self.old.guest.room }
+        requires shared { shared_by resources.now ≡ N.shared }
+        requires due { due_on self.old.guest.state token.old.number ≡ Some (wanting wish) }
+        requires may { MayAsk self.old.guest (wanting wish) }
+        ensures acts { OnOk result (MayAct self.new.guest.state token.old.number) }
+        ensures room { OnOk result (2 ≤ self.new.guest.room) }
+        ensures notes { self.new.guest.notes ≡ self.old.guest.notes }
+        ensures same { token.new ≡ token.old }
+    {
+        let Wish { page, kind, node } = wish;
+        let asked = self
+            .guest
+            .ask_move(alloc, token, page, kind, node, resources)?;
+        if asked == Asked::Begun {
+            self.moved = true;
+        }
+        self.guest.make_room()
+    }
+
+    /// Whether nothing is to be done before a turn of a processor: nothing is due on it by the policy, and no packet may come in.
+    #[inline]
+    fn is_quiet(&self, processor: ProcId) -> bool
+        requires { (b : Boot) → slice_get N.starts G ≡ Some b → processor.0 < length b.around.processors }
+        ensures { OnTrue result (MayAct self.now.guest.state processor.0) }
+    {
+        self.guest.due(processor).is_none() && !self.guest.is_armed()
+    }
+
+    /// What is due on the token's processor by the policy is asked for, and a packet may come in, each once there is room for it. There is
+    /// room for a turn then, and the processor may act.
+    #[cold]
+    #[inline(never)]
+    fn prepare<R: Wait>(
+        &mut self,
+        rt: &R,
+        alloc: Global,
+        token: &mut ProcToken,
+        resources: &Resources,
+    ) -> Result<(), AllocError>
+        requires token { Fits N.starts N.board token.old }
+        requires room { 2 ≤ self.old.guest.room }
+        requires shared { shared_by resources.now ≡ N.shared }
+        ensures acts { OnOk result (MayAct self.new.guest.state token.old.number) }
+        ensures room { OnOk result (2 ≤ self.new.guest.room) }
+        ensures notes { self.new.guest.notes ≡ self.old.guest.notes }
+        ensures same { token.new ≡ token.old }
+    {
+        if let Some(wish) = self.guest.due(token.number()) {
+            self.ask_due(alloc, token, wish, resources)?;
+        }
+        self.receive(rt, alloc, resources)
     }
 
     /// Asks for a move of a page by the plan, with nothing loaded on the token's processor.
@@ -172,7 +245,8 @@ impl<N: Starts, const G: u8> Kept<N, G> {
         self.guest.agree(token);
     }
 
-    /// Passes the gate, makes room, lets a packet come, and makes a turn of what is loaded on the token's processor.
+    /// Passes the gate, asks for what is due by the policy, lets a packet come, and makes a turn of what is loaded on the token's processor,
+    /// each once there is room for it.
     #[inline]
     pub(crate) fn turn<R: Wait, T: Gate>(
         &mut self,
@@ -192,8 +266,8 @@ impl<N: Starts, const G: u8> Kept<N, G> {
     {
         gate.pass(at);
         self.guest.make_room()?;
-        if self.guest.is_armed() {
-            self.receive(rt, alloc, resources)?;
+        if !self.is_quiet(token.number()) {
+            self.prepare(rt, alloc, token, resources)?;
         }
         self.guest.tells_loaded();
         let turn = self.guest.turn(rt, alloc, token, resources);

@@ -109,9 +109,6 @@ fn key_text(alloc: Global, key: UnbuiltKey) -> Result<String, AllocError>
 {
     match key {
         UnbuiltKey::Cache => String::from_str(alloc, "machine.cache"),
-        UnbuiltKey::Migrate => String::from_str(alloc, "policy.migrate"),
-        UnbuiltKey::Replicate => String::from_str(alloc, "policy.replicate"),
-        UnbuiltKey::Kind(item) => format!(in alloc; "work[{item}].kind"),
         UnbuiltKey::Act(item) => format!(in alloc; "work[{item}].act"),
     }
 }

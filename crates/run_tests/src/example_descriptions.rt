@@ -295,3 +295,42 @@ page = 1
 kind = \"migrate\"
 node = 1
 ";
+
+pub(crate) const REPLICATE_DESCRIPTION: &str =
+    "# A guest of two pages on node 0, which runs on processors of three other nodes, on one after the other, in whatever order. After three
+# misses each of them gets a replica of page 1, which it only reads; the store at the end lets all replicas go.
+[machine]
+nodes = 4
+frames = 4
+processors = [1, 2, 3]
+
+[policy]
+replicate = 3
+
+[[guest]]
+image = \"examples/replicate/guest.elf\"
+pages = 2
+vcpus = 1
+node = 0
+
+[[work]]
+act = \"run\"
+processor = 0
+guest = 0
+vcpu = 0
+steps = 37
+
+[[work]]
+act = \"run\"
+processor = 1
+guest = 0
+vcpu = 0
+steps = 32
+
+[[work]]
+act = \"run\"
+processor = 2
+guest = 0
+vcpu = 0
+steps = 36
+";

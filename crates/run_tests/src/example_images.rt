@@ -22,6 +22,18 @@ pub(crate) const MIGRATE: &[Part<'static>] = &[(
     ],
 )];
 
+/// Reads a word of its second page.
+pub(crate) const REPLICATE: &[Part<'static>] = &[
+    (
+        0,
+        &[
+            0x3C10CFFF, 0x3610F000, 0x3C08C000, 0x35081000, 0x24090018, 0x8D0A0000, 0x2529FFFF,
+            0x1520FFFD, 0x016A5821, 0xAD0B0004, 0x8D0C0004, 0xAE0C0000, 0xAE000004,
+        ],
+    ),
+    (0x1000, &[0x00000003]),
+];
+
 /// Prints a text.
 pub(crate) const HELLO: &[Part<'static>] = &[
     (

@@ -1,10 +1,12 @@
 //! The programs of the folder `examples` at the top of the repository, each with its description and with the report that it has there.
 use crate::example_descriptions::{
     DISK_DESCRIPTION, HELLO_DESCRIPTION, INPUT_DESCRIPTION, KERNEL_DESCRIPTION, LOANS_DESCRIPTION,
-    MIGRATE_DESCRIPTION, PACKETS_DESCRIPTION, TIMER_DESCRIPTION, TWO_GUESTS_DESCRIPTION,
+    MIGRATE_DESCRIPTION, PACKETS_DESCRIPTION, REPLICATE_DESCRIPTION, TIMER_DESCRIPTION,
+    TWO_GUESTS_DESCRIPTION,
 };
 use crate::example_images::{
-    ANSWERS, ASKS, DISK, DIVIDES, HELLO, INPUT, KERNEL, LETTERS, LOANS, MIGRATE, Part, TIMER,
+    ANSWERS, ASKS, DISK, DIVIDES, HELLO, INPUT, KERNEL, LETTERS, LOANS, MIGRATE, Part, REPLICATE,
+    TIMER,
 };
 use crate::tests::{file_of_parts, words_of};
 use base_words::{Bytes, Name};
@@ -173,6 +175,15 @@ fn examples_print_what_they_should(rt: HostRuntime) -> Result<(), Fail> {
             status: 0,
             monitored: "guest 0 console 10\n123456789\n\nend halted\nsums steps 71 refills 6 moves 2 skips 2 breaks 0 shared 0 received 0 discarded 0\n",
             alone: "guest 0 console 10\n123456789\n\nend halted\n",
+        },
+        Example {
+            about: "replicate",
+            description: REPLICATE_DESCRIPTION,
+            images: &[("examples/replicate/guest.elf", REPLICATE)],
+            disk: &[],
+            status: 0,
+            monitored: "guest 0 console 1\nH\nend halted\nsums steps 105 refills 10 moves 4 skips 0 breaks 0 shared 0 received 0 discarded 0\n",
+            alone: "guest 0 console 1\nH\nend halted\n",
         },
         Example {
             about: "packets",

@@ -11,7 +11,7 @@ use std::test::Fail;
 const LOOPS: [u8; 8] = [0x08, 0x00, 0x00, 0x00, 0x24, 0x00, 0x00, 0x00];
 
 /// Each guest's journal has these entries, each so many times in a row.
-fn try_journals<R: Abort>(rt: &R, out: &RunRecord, expected: &[(Event, u64)]) {
+pub(crate) fn try_journals<R: Abort>(rt: &R, out: &RunRecord, expected: &[(Event, u64)]) {
     for guest in out.guests.as_slice() {
         let mut runs = guest.journal.as_runs();
         for (event, count) in expected {

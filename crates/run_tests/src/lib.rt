@@ -24,6 +24,8 @@ mod packets;
 #[cfg(test)]
 mod parallel;
 #[cfg(test)]
+mod policy;
+#[cfg(test)]
 mod programs;
 #[cfg(test)]
 mod refusals;

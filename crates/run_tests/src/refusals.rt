@@ -81,16 +81,6 @@ fn what_isnt_built_is_refused(rt: HostRuntime) -> Result<(), Fail> {
             "fault description unbuilt machine.cache\n",
         ),
         refused(
-            &[("[[work]]", "[policy]\nmigrate = 1\n[[work]]")],
-            5,
-            "fault description unbuilt policy.migrate\n",
-        ),
-        refused(
-            &[("[[work]]", "[policy]\nreplicate = 1\n[[work]]")],
-            5,
-            "fault description unbuilt policy.replicate\n",
-        ),
-        refused(
             &[FIFTEEN_STEPS, MOVE_AND_FAILURE],
             5,
             "fault description unbuilt work[2].act\n",
@@ -99,15 +89,6 @@ fn what_isnt_built_is_refused(rt: HostRuntime) -> Result<(), Fail> {
             &[DISK, FIFTEEN_STEPS, MOVE_AND_FAILURE],
             5,
             "fault description unbuilt work[2].act\n",
-        ),
-        refused(
-            &[
-                FIFTEEN_STEPS,
-                MOVE_AND_FAILURE,
-                ("\"migrate\"", "\"replicate\""),
-            ],
-            5,
-            "fault description unbuilt work[1].kind\n",
         ),
     ];
     try_all(&rt, rt.alloc(), &cases)?;

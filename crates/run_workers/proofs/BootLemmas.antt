@@ -59,7 +59,6 @@ may-start machine plan around source spec vcpus frames described built site gues
       few_vcpus = omega (arith, few, count);
       few_pages = omega (arith, small, pages);
       backed = backed;
-      no_policy = (ap (λ p. p.migrate) site.policy ∙ built.no_migration, ap (λ p. p.replicate) site.policy ∙ built.no_replication);
       few_processors = omega (arith, processors, most);
       few_guests = omega (arith, ap length site.homes, length-map around.site.homes (λ (x : CellId). x.0), length-map machine.guests (home_in machine), described.few_guests);
       few_frames = subst (λ (n : ℕ). n * around.site.shape.frames < 2 ^ 32) (sym site.nodes) (subst (λ (n : ℕ). machine.shape.nodes * n < 2 ^ 32) (sym site.frames) (omega (arith, total)));

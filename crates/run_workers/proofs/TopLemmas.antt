@@ -1,11 +1,13 @@
 -- From a description to the run of its guests.
-use Rattle.std.proofs.Common.{◌≡◌, ℕ, zero, suc, ◌+◌, ◌<◌, List, [], ◌∷◌, map, length, refl, sym, ap, ◌∙◌, subst, arith, inl, true, Option, Some, None, Result, Ok, Err, IfOk}
+use Rattle.std.proofs.Common.{◌≡◌, ℕ, zero, suc, ◌+◌, ◌<◌, List, [], ◌∷◌, map, length, refl, sym, ap, ◌∙◌, subst, arith, inl, inr, true, Option, Some, None, Result, Ok, Err, IfOk}
 use Rattle.std.specs.Prelude.{slice_get, slice_index_or}
 use Rattle.std.specs.Option.{IsSomeAnd}
 use Rattle.std.specs.declared.alloc.AllocError.{AllocError}
 use Rattle.std.proofs.lemmas.List.{length-map}
 use Rattle.atomic_table.specs.Seated.{TableId}
 use Rattle.base_words.specs.declared.input.InputEntry.{InputEntry}
+use Rattle.base_words.specs.declared.ids.NodeId.{NodeId}
+use Rattle.base_words.specs.declared.moves.MoveKind.{MoveKind}
 use Rattle.base_words.specs.declared.moves.MoveKind.TheVariants.{Migrate, Replicate, Collapse, Break, TakeShared, GiveShared}
 use Rattle.run_workers.specs.declared.source.Source.{Source}
 use Rattle.frame_words.specs.Holders.{Holding}
@@ -17,13 +19,14 @@ use Rattle.private_machine.specs.PrivateRun.{Image as Given}
 use Rattle.machine_desc.specs.declared.machine.GuestSpec.{GuestSpec}
 use Rattle.machine_desc.specs.declared.plan.Item.{Item}
 use Rattle.machine_desc.specs.declared.plan.Item.TheVariants.{Run, Move, Fail}
-use Rattle.machine_desc.specs.Bounds.{LeadsTo, IsItem}
+use Rattle.machine_desc.specs.Bounds.{LeadsTo, IsGuest, IsItem}
 use Rattle.machine_desc.specs.Described.{Described}
 use Rattle.machine_desc.specs.Accepted.{IsAccepted}
 use Rattle.wire_queue.specs.Between.{Made}
 use Rattle.wire_queue.specs.Closing.{AreInOrder}
 use Rattle.wire_queue.specs.declared.lists.PassList.{PassList}
 use Rattle.guest_core.specs.GuestView.{Monitored, Shared}
+use Rattle.guest_core.specs.MoveCalls.{IsPlanned}
 use Rattle.guest_core.specs.declared.records.RunRecord.{RunRecord}
 use Rattle.unbuilt_keys.specs.Unbuilt.{is_built}
 use Rattle.unbuilt_keys.specs.Built.{IsBuilt}
@@ -55,8 +58,18 @@ started-at d sources board shared guests g guest are at =
     let source = get-there sources g (omega arith) in
     (source.0, source.1, are.each g guest source.0 at source.1)
 
-item-fits : (d : Described) (sources : List Source) (board : TableId) (shared : Shared) (guests : List Monitored) (item : Item) → length d.cells ≡ d.nodes → length guests ≡ length d.guests → AreSources d.guests sources → AreBooted d sources board shared guests → IsItem d item → is_built item ≡ true → ItemFits (map start_of guests) item
-item-fits d sources board shared guests (Run p g v steps) nodes count from are is built = by (slice_get d.guests g.0) refl is.of
+-- a move leads to a node, and may be asked for
+kind-fits : (nodes page : ℕ) (spec : GuestSpec) (kind : MoveKind) (node : NodeId) (w : Surroundings) → IsGuest nodes spec → w.home ≡ spec.node.0 → LeadsTo nodes spec kind node
+    → (node.0 < nodes) × IsPlanned w (record { page = page; kind = kind; node = node.0 })
+kind-fits nodes page spec Migrate node w is home to = (to, inl refl)
+kind-fits nodes page spec Replicate node w is home to = (to, inr (inl refl))
+kind-fits nodes page spec Collapse node w is home to = (subst (λ (n : NodeId). n.0 < nodes) (sym to) is.home, inr (inr (refl, ap (λ (n : NodeId). n.0) to ∙ sym home)))
+kind-fits nodes page spec Break node w is home to = absurd to
+kind-fits nodes page spec TakeShared node w is home to = absurd to
+kind-fits nodes page spec GiveShared node w is home to = absurd to
+
+item-fits : (d : Described) (sources : List Source) (board : TableId) (shared : Shared) (guests : List Monitored) (item : Item) → IsAccepted d → length guests ≡ length d.guests → AreSources d.guests sources → AreBooted d sources board shared guests → IsItem d item → is_built item ≡ true → ItemFits (map start_of guests) item
+item-fits d sources board shared guests (Run p g v steps) accepted count from are is built = by (slice_get d.guests g.0) refl is.of
   where
     by : (o : Option GuestSpec) → slice_get d.guests g.0 ≡ o → IsSomeAnd o (λ spec. v.0 < spec.vcpus) → ItemFits (map start_of guests) (Run p g v steps)
     by None e of = absurd of
@@ -67,33 +80,33 @@ item-fits d sources board shared guests (Run p g v steps) nodes count from are i
         let same = same-some started.2.spec spec (sym started.2.spec_is ∙ e) in
         let vcpus : guest.0.start.vcpus ≡ spec.vcpus = started.2.start.vcpus ∙ ap (λ (s : GuestSpec). s.vcpus) same in
         record { start = guest.0.start; named = map-get start_of guests g.0 guest.0 guest.1; vcpu = subst (λ n. v.0 < n) (sym vcpus) of }
-item-fits d sources board shared guests (Move p g page Migrate node) nodes count from are is built = by (slice_get d.guests g.0) refl is.of is.to
+item-fits d sources board shared guests (Move p g page kind node) accepted count from are is built = by (slice_get d.guests g.0) refl is.of is.to
   where
-    by : (o : Option GuestSpec) → slice_get d.guests g.0 ≡ o → IsSomeAnd o (λ spec. page.0 < spec.pages) → IsSomeAnd o (λ spec. LeadsTo d.nodes spec Migrate node) → ItemFits (map start_of guests) (Move p g page Migrate node)
+    by : (o : Option GuestSpec) → slice_get d.guests g.0 ≡ o → IsSomeAnd o (λ spec. page.0 < spec.pages) → IsSomeAnd o (λ spec. LeadsTo d.nodes spec kind node) → ItemFits (map start_of guests) (Move p g page kind node)
     by None e of to = absurd of
     by (Some spec) e of to =
-        let few = (get-index d.guests g.0 spec spec e).0 in
+        let there = get-index d.guests g.0 spec spec e in
+        let few = there.0 in
+        let is-guest : IsGuest d.nodes spec = subst (IsGuest d.nodes) there.1 (accepted.guests g.0 spec few) in
         let guest = get-there guests g.0 (let l : g.0 < length guests = omega arith in l) in
         let started = started-at d sources board shared guests g.0 guest.0 are guest.1 in
+        let same = same-some started.2.spec spec (sym started.2.spec_is ∙ e) in
         let source = source-at d.guests sources g.0 started.0 spec from started.1 e in
         let b = guest.0.start in
         let pages : b.image.pages ≡ spec.pages = ap (λ (i : Given). i.pages) started.2.start.image_is ∙ source.pages in
-        let wide : length b.around.nodes ≡ d.nodes = ap (λ (w : Surroundings). length w.nodes) started.2.start.around ∙ length-map d.cells (λ c. c.0) ∙ nodes in
+        let wide : length b.around.nodes ≡ d.nodes = ap (λ (w : Surroundings). length w.nodes) started.2.start.around ∙ length-map d.cells (λ c. c.0) ∙ accepted.in_cells in
+        let home : b.around.home ≡ spec.node.0 = ap (λ (w : Surroundings). w.home) started.2.start.around ∙ ap (λ (s : GuestSpec). s.node.0) same in
+        let fits = kind-fits d.nodes page.0 spec kind node b.around is-guest home to in
         record {
           start = b;
           named = map-get start_of guests g.0 guest.0 guest.1;
           may = record {
             is_page = subst (λ n. page.0 < n) (sym pages) of;
-            is_node = subst (λ n. node.0 < n) (sym wide) to;
-            planned = inl refl;
+            is_node = subst (λ n. node.0 < n) (sym wide) fits.0;
+            planned = fits.1;
           };
         }
-item-fits d sources board shared guests (Move p g page Replicate node) nodes count from are is built = absurd cc
-item-fits d sources board shared guests (Move p g page Collapse node) nodes count from are is built = absurd cc
-item-fits d sources board shared guests (Move p g page Break node) nodes count from are is built = absurd cc
-item-fits d sources board shared guests (Move p g page TakeShared node) nodes count from are is built = absurd cc
-item-fits d sources board shared guests (Move p g page GiveShared node) nodes count from are is built = absurd cc
-item-fits d sources board shared guests (Fail p cell) nodes count from are is built = absurd cc
+item-fits d sources board shared guests (Fail p cell) accepted count from are is built = absurd cc
 
 item-on : (d : Described) (count : ℕ) (item : Item) → count ≡ length d.processors → IsItem d item → IsOn count item
 item-on d count (Run p g v steps) same is = subst (λ n. p.0 < n) (sym same) is.on
@@ -135,7 +148,7 @@ may-run d sources guests tokens shared holder accepted built from booted =
       processors = λ g guest at. (let started = (started-at d sources board shared guests g guest are at).2 in ap (λ w. length w.processors) started.start.around ∙ length-map d.processors (λ n. n.0) ∙ sym length-is);
       cells = λ g guest at p. cells-at d sources board shared guests guests are g guest at p (λ i x e. e);
       few_items = omega arith;
-      places = λ i e l. item-fits d sources board shared guests (slice_index_or d.items i e) accepted.in_cells all from are (accepted.items i e l) (built.built i e l);
+      places = λ i e l. item-fits d sources board shared guests (slice_index_or d.items i e) accepted all from are (accepted.items i e l) (built.built i e l);
       on = λ i e l. item-on d (length tokens) (slice_index_or d.items i e) length-is (accepted.items i e l);
     }
 

@@ -5,6 +5,4 @@ use Rattle.unbuilt_keys.specs.Unbuilt.{is_built}
 
 pub record IsBuilt (d : Described) : Type 0 where
   pub no_cache : d.cache ≡ 0
-  pub no_migration : d.policy.migrate ≡ 0
-  pub no_replication : d.policy.replicate ≡ 0
   pub built : All (λ item. is_built item ≡ true) d.items

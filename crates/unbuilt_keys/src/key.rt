@@ -5,12 +5,6 @@
 pub enum UnbuiltKey {
     /// An index of shared blocks.
     Cache,
-    /// Migration by the policy.
-    Migrate,
-    /// Replication by the policy.
-    Replicate,
-    /// A move that is no migration.
-    Kind(usize),
     /// The failure of a cell.
     Act(usize),
 }

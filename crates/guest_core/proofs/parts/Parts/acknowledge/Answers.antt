@@ -1,21 +1,16 @@
 -- The acknowledgement is its row, and the guest is kept.
-use Rattle.std.proofs.Common.{Option, refl, ap, arith}
+use Rattle.std.proofs.Common.{refl, ap, arith}
 use Rattle.base_words.specs.declared.events.Event.{Event}
 use Rattle.base_words.specs.declared.events.Event.TheVariants.{Ack}
 use Rattle.isolation_law.specs.GuestState.{GuestState}
-use Rattle.isolation_law.specs.Parts.{Wish}
-use Rattle.isolation_law.specs.Phases.{lets_act}
 use Rattle.guest_course.specs.CourseView.{state_of}
 use Rattle.guest_core.proofs.EnterProofs.{one-row}
 use Rattle.guest_core.proofs.HoldingLemmas.{frames-stay}
-use Rattle.guest_core.proofs.KeptProofs.{kept-none, ack-leaves, ack-due}
+use Rattle.guest_core.proofs.KeptProofs.{kept-none, ack-due}
 use Rattle.guest_core.proofs.MoveLemmas.{kept-made, posted-ack}
 use Rattle.guest_core.proofs.RoomLemmas.{two-entries, KeepsCalls, as-used, room-used}
 use Rattle.guest_core.proofs.UsingProofs.{uses-row}
 use Rattle.guest_core.proofs.parts.Parts.acknowledge.Goals as goal
-
-pub acknowledge-requires-clause-may_act : goal.acknowledge-requires-clause-may_act
-acknowledge-requires-clause-may_act c = ap (λ (wish : Option Wish). lets_act (state_of c.args.self.now.course) wish) (c.requires.kept.kept.nothing_due c.args.processor.0)
 
 pub returns-clause-kept : goal.returns-clause-kept
 returns-clause-kept c =
@@ -32,7 +27,7 @@ returns-clause-kept c =
     let room = two-entries _ _ _ c.requires.room in
     kept-made old e c.acknowledge.new.self old.holder old.uses c.push.new.self k (record {
       sound = c.acknowledge.ensures.sound;
-      kept = kept-none w c.laws.ensures.runs old.start s t old.journal.entries old.seat.notes e k.kept (ack-leaves s t p q row k.kept.nothing_due) refl;
+      kept = kept-none w c.laws.ensures.runs old.start s t old.journal.entries old.seat.notes e k.kept row refl;
       goes_on = λ on. c.acknowledge.ensures.goes_on;
       frames = frames-stay s t _ ex (w.around s t e row) (ap (λ (x : GuestState). x.end) row.after) k.frames;
       used = uses-row w s t e old.uses row ex (λ r. refl) k.used;

@@ -8,6 +8,7 @@ use Rattle.isolation_law.specs.GuestState.{GuestState}
 use Rattle.isolation_law.specs.Surroundings.{Surroundings}
 use Rattle.guest_course.specs.CourseView.{state_of}
 use Rattle.guest_core.specs.Wiring.{Posted}
+use Rattle.guest_core.proofs.ActLemmas.{acts-opened}
 use Rattle.guest_core.proofs.AskLemmas.{kept-packet, quiet-begin}
 use Rattle.guest_core.proofs.GainLemmas.{inside-need, exchanged-inside}
 use Rattle.guest_core.proofs.OpenCounts.{calls-less, no-less, open-more}
@@ -48,7 +49,6 @@ returns-clause-kept c =
       frames = frames-stay s t _ exchanged around (ap (λ (x : GuestState). x.end) row.after) k.frames;
       used = uses-row w s t entry old.uses row exchanged (λ r. refl) k.used;
       at_home = k.at_home;
-      no_policy = k.no_policy;
       owed = omega (arith, loads, opens, room, c.push.ensures.room);
       few_guests = k.few_guests;
       wired = k.wired;
@@ -66,3 +66,8 @@ returns-clause-room c =
     let opens = open-more s t c.args.page.0 c.args.kind s.around.home Packet e.begins in
     less-room _ _ _ _ _ _ (omega (arith, loads, opens, c.push.ensures.room))
     (calls-less old.course c.begin_for_packet.new.self (no-less _ _ e.print_room) (no-less _ _ e.send_room) (no-less _ _ (rw e.cells refl)) (no-less _ _ (rw e.packets.received refl)) e.room (no-less _ _ (rw e.skips refl)))
+
+pub returns-clause-acts : goal.returns-clause-acts
+returns-clause-acts c =
+    let s = state_of c.args.self.now.course in
+    acts-opened s (state_of c.begin_for_packet.new.self) c.args.page.0 c.args.kind s.around.home Packet c.begin_for_packet.ensures.begins

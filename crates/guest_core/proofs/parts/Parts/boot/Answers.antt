@@ -16,7 +16,6 @@ use Rattle.guest_core.specs.Starting.{booted_with}
 use Rattle.guest_core.proofs.BootLemmas.{same-boot, may-boot, is-boot, nothing-due, kept-start}
 use Rattle.guest_core.proofs.EnterProofs.{of-these}
 use Rattle.guest_core.proofs.HoldingLemmas.{holding-start}
-use Rattle.guest_core.proofs.KeptProofs.{IsOff}
 use Rattle.wire_queue.specs.Between.{Made}
 use Rattle.wire_queue.specs.declared.lists.PassList.{PassList}
 use Rattle.base_words.specs.declared.events.Event.{Event}
@@ -72,7 +71,6 @@ returns-clause-kept c =
       };
       used = subst (λ (g : GuestState). AreUses g c.in_ok-uses.uses) (sym state) (uses-start b c.args.frames c.args.around.site.shape c.in_ok-uses.uses refl (record { frames = refl; cells = refl }) c.in_ok-uses.ensures.cells c.in_ok-uses.ensures.counts);
       at_home = subst (λ (x : Boot). x.around.home < length x.around.nodes) (sym start) (subst (λ (n : ℕ). c.args.around.home.0 < n) (sym (length-map c.args.around.site.shape.cells (λ (x : CellId). x.0) ∙ c.args.around.site.shape.has_cells)) c.requires.may.at_home);
-      no_policy = subst (λ (x : Boot). IsOff x.around.policy) (sym start) c.requires.may.no_policy;
       owed = omega (arith, none);
       few_guests = subst (λ (x : Boot). length x.around.homes ≤ 8) (sym start) (subst (λ (n : ℕ). n ≤ 8) (sym (length-map c.args.around.site.homes (λ (x : CellId). x.0))) c.requires.may.few_guests);
       wired = subst (λ (x : Boot). IsWired c.of.result.wires.value c.of.result.passes x.around) (sym start) (subst (λ (l : PassList). IsWired c.of.result.wires.value l (from c).around) (sym c.of.ensures.passes) (subst (λ (m : Made). IsWired m c.args.passes (from c).around) (sym c.of.ensures.wires) c.requires.wired));

@@ -22,7 +22,6 @@ asked old new wires k of list same still = record {
   frames = k.frames;
   used = k.used;
   at_home = k.at_home;
-  no_policy = k.no_policy;
   owed = k.owed;
   few_guests = k.few_guests;
   wired = subst (λ (m : Made). IsWired m new.passes old.start.around) (sym (ap (λ x. x.value) still))

@@ -11,7 +11,7 @@ use Rattle.guest_core.specs.Kept.{Kept}
 use Rattle.guest_core.specs.MoveCalls.{finishing}
 use Rattle.guest_core.specs.Wiring.{Posted}
 use Rattle.guest_core.proofs.EndLemmas.{plan-done}
-use Rattle.guest_core.proofs.KeptProofs.{kept-none, end-leaves, as-many}
+use Rattle.guest_core.proofs.KeptProofs.{kept-none, as-many}
 use Rattle.guest_core.proofs.RoomLemmas.{two-entries}
 use Rattle.guest_core.proofs.WiringProofs.{posted-same, quiet-one, quiet-end}
 use Rattle.guest_core.proofs.parts.Parts.end_budget.Goals as goal
@@ -48,7 +48,7 @@ returns-clause-kept c =
     let k = c.finish_all.ensures.kept in
     let w = c.laws.ensures.rows in
     let row = c.close.ensures.ends in
-    let kept = kept-none w c.laws.ensures.runs mid.start s t mid.journal.entries mid.seat.notes (Ending Budget) k.kept (end-leaves s t Budget row k.kept.nothing_due) refl in
+    let kept = kept-none w c.laws.ensures.runs mid.start s t mid.journal.entries mid.seat.notes (Ending Budget) k.kept row refl in
     let loads = as-many w s t (Ending Budget) row (λ r. refl) in
     let opens : open_count t ≡ 0 = ap open_count row.after in
     let some : 2 ≤ (guest_of mid).room = at-least _ _ c.requires.room c.finish_all.ensures.room in
@@ -63,7 +63,6 @@ returns-clause-kept c =
       frames = c.close.ensures.frames;
       used = c.close.ensures.used;
       at_home = k.at_home;
-      no_policy = k.no_policy;
       owed = omega (arith, loads, opens, room, c.push.ensures.room);
       few_guests = k.few_guests;
       wired = k.wired;

@@ -8,6 +8,7 @@ use Rattle.guest_course.specs.CourseView.{hand_of, state_of}
 use Rattle.guest_course.specs.declared.course.Course.{Course}
 use Rattle.guest_core.specs.GuestView.{entries_due}
 use Rattle.guest_core.specs.Wiring.{IsWired}
+use Rattle.guest_core.proofs.ActLemmas.{acts-hand}
 use Rattle.guest_core.proofs.HandProofs.{kept-comes, goes-comes, frames-come, wired-again}
 use Rattle.guest_core.proofs.UsingProofs.{uses-come}
 use Rattle.guest_core.proofs.WiringProofs.{posted-comes}
@@ -35,9 +36,11 @@ returns-in-Some-clause-kept g c =
       frames = frames-come s t old.holder.view k.frames comes;
       used = uses-come s t old.uses k.used comes;
       at_home = k.at_home;
-      no_policy = k.no_policy;
       owed = subst (λ (x : GuestState). entries_due x ≤ old.journal.room) (sym comes.after) k.owed;
       few_guests = k.few_guests;
       wired = subst (λ (m : Made). IsWired m c.next.new.self.passes old.start.around) (ap (λ x. x.value) (sym c.in-Some.ensures.wires)) again;
       posted = posted-comes w wires s t old.journal.entries old.wiring.passes c.next.new.self.passes c.in-Some.packet here k.posted comes held c.in-Some.ensures.taken;
     }
+
+pub returns-in-Some-clause-acts : goal.returns-in-Some-clause-acts
+returns-in-Some-clause-acts g c = acts-hand (state_of c.args.self.now.course) (state_of c.take_in_hand.new.self) c.take_in_hand.ensures.comes

@@ -8,8 +8,9 @@ use Rattle.isolation_law.specs.GuestState.{GuestState, page}
 use Rattle.isolation_law.specs.Surroundings.{Surroundings}
 use Rattle.guest_course.specs.CourseView.{state_of}
 use Rattle.guest_core.specs.Holding.{FitsAround}
+use Rattle.guest_core.proofs.ActLemmas.{acts-finished}
 use Rattle.guest_core.proofs.EnterProofs.{one-row}
-use Rattle.guest_core.proofs.KeptProofs.{kept-none, finish-leaves, finish-due}
+use Rattle.guest_core.proofs.KeptProofs.{kept-none, finish-due}
 use Rattle.guest_core.proofs.MoveLemmas.{holds-dropped, counts-dropped, kept-made, posted-finish}
 use Rattle.guest_core.proofs.RoomLemmas.{KeepsCalls, room-kept}
 use Rattle.guest_core.proofs.parts.Parts.finish.Goals as goal
@@ -58,7 +59,7 @@ returns-clause-kept c =
     let e : Event = Finish q in
     kept-made old e c.finish_move-freed.new.self c.give_back.new.holder c.give_back.new.uses c.push.new.self k (record {
       sound = c.finish_move-freed.ensures.sound;
-      kept = kept-none w c.laws.ensures.runs old.start s t old.journal.entries old.seat.notes e k.kept (finish-leaves s t q row k.kept.nothing_due) refl;
+      kept = kept-none w c.laws.ensures.runs old.start s t old.journal.entries old.seat.notes e k.kept (inl row) refl;
       goes_on = λ on. c.finish_move-freed.ensures.goes_on;
       frames = record { holding = c.give_back.ensures.holding; given_back = λ end is. absurd (not-ended end (sym c.finish_move-freed.ensures.goes_on.not_ended ∙ is)) };
       used = c.give_back.ensures.used;
@@ -89,3 +90,6 @@ returns-clause-room c =
 
 pub returns-clause-hand : goal.returns-clause-hand
 returns-clause-hand c = ap (λ (x : GuestState). x.hand) c.finish_move-freed.ensures.finishes.after
+
+pub returns-clause-acts : goal.returns-clause-acts
+returns-clause-acts c = acts-finished (state_of c.args.self.now.course) (state_of c.finish_move-freed.new.self) c.args.page.0 c.finish_move-freed.ensures.finishes

@@ -9,7 +9,7 @@ use Rattle.isolation_law.specs.GuestState.{GuestState}
 use Rattle.guest_course.specs.CourseView.{state_of}
 use Rattle.guest_core.specs.Kept.{Kept}
 use Rattle.guest_core.proofs.HoldingLemmas.{frames-stay}
-use Rattle.guest_core.proofs.KeptProofs.{kept-one, kept-answer, load-leaves, load-due}
+use Rattle.guest_core.proofs.KeptProofs.{kept-one, kept-answer, load-due}
 use Rattle.guest_core.proofs.EnterProofs.{noted-kept}
 use Rattle.guest_core.proofs.RoomLemmas.{two-entries, KeepsCalls, as-used, room-used}
 use Rattle.guest_core.specs.Wiring.{Posted}
@@ -38,7 +38,7 @@ returns-clause-kept c =
     let w = c.laws.ensures.rows in
     let row = c.load.ensures.loads in
     let v' = c.laws.ensures.takes in
-    let kept = kept-one w c.laws.ensures.runs old.start s t old.journal.entries old.seat.notes (Load p v) n k.kept (load-leaves s t p v row k.kept.nothing_due) refl row.is_processor in
+    let kept = kept-one w c.laws.ensures.runs old.start s t old.journal.entries old.seat.notes (Load p v) n k.kept row refl row.is_processor in
     let due = load-due w c.laws.ensures.moves s t p v row in
     let room = two-entries _ _ _ c.requires.room in
     record {
@@ -51,7 +51,6 @@ returns-clause-kept c =
       frames = frames-stay s t _ (c.exchanges.ensures.loads s t p.0 v.0 row) (w.around s t (Load p v) row) (ap (λ (x : GuestState). x.end) row.after) k.frames;
       used = c.count_load.ensures v.0 t row;
       at_home = k.at_home;
-      no_policy = k.no_policy;
       owed = omega (arith, due, room, c.push.ensures.room);
       few_guests = k.few_guests;
       wired = k.wired;

@@ -7,9 +7,10 @@ use Rattle.isolation_law.specs.GuestState.{GuestState}
 use Rattle.guest_course.specs.CourseView.{state_of}
 use Rattle.guest_core.specs.Kept.{Kept}
 use Rattle.guest_core.specs.Wiring.{Posted}
+use Rattle.guest_core.proofs.ActLemmas.{acts-received}
 use Rattle.guest_core.proofs.OpenCounts.{calls-less, no-less, open-received}
 use Rattle.guest_core.proofs.HoldingLemmas.{frames-stay}
-use Rattle.guest_core.proofs.KeptProofs.{kept-none, receive-leaves, as-many}
+use Rattle.guest_core.proofs.KeptProofs.{kept-none, as-many}
 use Rattle.guest_core.proofs.RoomLemmas.{two-entries, less-room}
 use Rattle.guest_core.proofs.UsingProofs.{uses-row}
 use Rattle.guest_core.proofs.WiringProofs.{posted-received}
@@ -25,7 +26,7 @@ returns-clause-kept c =
     let row = c.in_ok-receive.ensures.receives in
     let w = c.laws.ensures.rows in
     let v = c.laws.ensures.takes in
-    let kept = kept-none w c.laws.ensures.runs old.start s t old.journal.entries old.seat.notes (PacketIn place) k.kept (receive-leaves s t place row k.kept.nothing_due) refl in
+    let kept = kept-none w c.laws.ensures.runs old.start s t old.journal.entries old.seat.notes (PacketIn place) k.kept (inl row) refl in
     let long : vec_len old.course.received ≡ place = search rules in
     let entries = c.push.ensures.entries ∙ ap (λ n. old.journal.entries ++ PacketIn n ∷ []) (c.len-place.ensures ∙ long) in
     let loads = as-many w s t (PacketIn place) (inl row) (λ r. refl) in
@@ -40,7 +41,6 @@ returns-clause-kept c =
       frames = frames-stay s t _ (c.exchanges.ensures.receives s t place row) (w.around s t (PacketIn place) (inl row)) (ap (λ (x : GuestState). x.end) row.after) k.frames;
       used = uses-row w s t (PacketIn place) old.uses (inl row) (c.exchanges.ensures.receives s t place row) (λ r. refl) k.used;
       at_home = k.at_home;
-      no_policy = k.no_policy;
       owed = omega (arith, loads, opens, room, c.push.ensures.room);
       few_guests = k.few_guests;
       wired = k.wired;
@@ -58,3 +58,6 @@ returns-clause-room c =
     let opens = open-received s t place e.receives in
     less-room _ _ _ _ _ _ (omega (arith, loads, opens, c.push.ensures.room))
     (calls-less old.course c.receive.new.self (no-less _ _ e.print_room) (no-less _ _ e.send_room) (no-less _ _ (rw e.cells refl)) e.place_room (no-less _ _ e.room) (no-less _ _ (rw e.skips refl)))
+
+pub returns-clause-acts : goal.returns-clause-acts
+returns-clause-acts c = acts-received (state_of c.args.self.now.course) (state_of c.receive.new.self) (length c.args.self.now.course.received.items) c.in_ok-receive.ensures.receives

@@ -20,3 +20,6 @@ is-in-hand (Some packet) some = none
 pub returns-clause-takes : goal.returns-clause-takes
 returns-clause-takes g c =
     then-takes (guest_of c.args.self.now) (guest_of c.fetch.new.self) (guest_of c.take_in.new.self) c.take_in.result c.requires.armed c.fetch.ensures.fetches (is-in-hand c.fetch.new.self.course.hand c.if-is_none.ensures) c.take_in.ensures.takes
+
+pub returns-clause-acts : goal.returns-clause-acts
+returns-clause-acts g c = λ p may. c.take_in.ensures.acts p (c.fetch.ensures.acts p may)

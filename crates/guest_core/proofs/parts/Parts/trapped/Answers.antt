@@ -32,7 +32,7 @@ use Rattle.guest_core.specs.Wiring.{IsWired, Posted}
 use Rattle.guest_core.proofs.HoldingLemmas.{frames-stay}
 use Rattle.guest_core.proofs.EnterProofs.{kept-refill, kept-emulate, of-these, goes-on, concluded-due, one-row, emulate-turn, learns-none}
 use Rattle.guest_core.specs.Laws.{RowLaws}
-use Rattle.guest_core.proofs.KeptProofs.{kept-none, begin-leaves, begin-due, refill-due, emulate-due, emulate-end}
+use Rattle.guest_core.proofs.KeptProofs.{kept-none, begin-due, refill-due, emulate-due, emulate-end}
 use Rattle.guest_core.proofs.MoveLemmas.{gains-none, kept-made, posted-begin, told-move}
 use Rattle.guest_core.proofs.RoomLemmas.{two-entries, UsesCall, turn-uses, room-used}
 use Rattle.guest_core.proofs.HandProofs.{wired-again}
@@ -81,7 +81,6 @@ returns-in-Refill-clause-kept g c =
       frames = frames-stay s m _ (c.exchanges.ensures.refills s m q.0 did) (w.around s m (Refill q) did) (ap (λ (x : GuestState). x.end) did.after) k.frames;
       used = uses-row w s m (Refill q) old.uses did (c.exchanges.ensures.refills s m q.0 did) (λ r. refl) k.used;
       at_home = k.at_home;
-      no_policy = k.no_policy;
       owed = omega (arith, due, room, c.push.ensures.room);
       few_guests = k.few_guests;
       wired = k.wired;
@@ -150,7 +149,7 @@ returns-in-Begin-clause-kept g c =
     let room = two-entries _ _ _ c.requires.room in
     kept-made old e c.serve.new.course old.holder old.uses c.push-in-Begin.new.self k (record {
       sound = c.serve.ensures.sound;
-      kept = kept-none w c.laws.ensures.runs old.start s m old.journal.entries old.seat.notes e k.kept (begin-leaves s m q kind home (Step p) did.row k.kept.nothing_due) refl;
+      kept = kept-none w c.laws.ensures.runs old.start s m old.journal.entries old.seat.notes e k.kept did.row refl;
       goes_on = λ on. subst (λ a. GoesOnThen m (Ok a)) c.in-Begin.is c.in_ok-serve.ensures.goes_on;
       frames = frames-stay s m _ ex around (ap (λ (x : GuestState). x.end) did.row.after) k.frames;
       used = uses-row w s m e old.uses did.row ex (λ r. refl) k.used;
@@ -292,7 +291,6 @@ returns-in-Emulate-clause-kept g c =
       frames = c.conclude.ensures.frames;
       used = c.conclude.ensures.used;
       at_home = k.at_home;
-      no_policy = k.no_policy;
       owed = omega (arith, due, due', room, c.conclude.ensures.room);
       few_guests = k.few_guests;
       wired = subst (λ (m : Wires). IsWired m c.post.new.self.passes old.start.around) (ap (λ x. x.value) (sym c.post.ensures.wires))

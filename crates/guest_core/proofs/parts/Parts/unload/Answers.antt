@@ -9,7 +9,7 @@ use Rattle.isolation_law.specs.GuestState.{GuestState}
 use Rattle.guest_course.specs.CourseView.{state_of}
 use Rattle.guest_core.specs.Kept.{Kept}
 use Rattle.guest_core.proofs.HoldingLemmas.{frames-stay}
-use Rattle.guest_core.proofs.KeptProofs.{kept-one, unload-leaves, unload-due}
+use Rattle.guest_core.proofs.KeptProofs.{kept-one, unload-due}
 use Rattle.guest_core.proofs.RoomLemmas.{KeepsCalls, room-kept}
 use Rattle.guest_core.specs.Wiring.{Posted}
 use Rattle.guest_core.proofs.WiringProofs.{posted-same, quiet-one, quiet-unload}
@@ -33,9 +33,8 @@ returns-clause-kept c =
     let w = c.laws.ensures.rows in
     let row = c.unload.ensures.unloads in
     let v' = c.laws.ensures.takes in
-    let leaves = unload-leaves s t p c.unload.ensures.unloads k.kept.nothing_due in
     let there : p.0 < length s.processors = subst (λ (n : ℕ). p.0 < n) (sym k.kept.processors) (rw c.number-processor.ensures c.requires.may.notes.is_processor) in
-    let kept = kept-one w c.laws.ensures.runs old.start s t old.journal.entries old.seat.notes (Unload p) n k.kept leaves refl there in
+    let kept = kept-one w c.laws.ensures.runs old.start s t old.journal.entries old.seat.notes (Unload p) n k.kept c.unload.ensures.unloads refl there in
     let due = unload-due w c.laws.ensures.moves s t p row there in
     record {
       sound = c.unload.ensures.sound;
@@ -46,7 +45,6 @@ returns-clause-kept c =
       frames = frames-stay s t _ (c.exchanges.ensures.unloads s t p.0 c.unload.ensures.unloads) (w.around s t (Unload p) c.unload.ensures.unloads) (ap (λ (x : GuestState). x.end) c.unload.ensures.unloads.after) k.frames;
       used = c.count_unload.ensures t row;
       at_home = k.at_home;
-      no_policy = k.no_policy;
       owed = omega (arith, due, k.owed, c.push.ensures.room);
       few_guests = k.few_guests;
       wired = k.wired;

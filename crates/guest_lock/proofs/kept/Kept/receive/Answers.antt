@@ -14,6 +14,7 @@ loop-call-preserved g c = (
   once-more c.loop-call._call c.args.self.now.guest c.loop-call.self.guest c.receive_once.new.self.guest c.loop-call.invariant.0 c.receive_once.ensures.called,
   c.in_ok-receive_once.ensures.room,
   c.receive_once.ensures.notes ∙ c.loop-call.invariant.2,
+  λ p may. c.receive_once.ensures.acts p (c.loop-call.invariant.3 p may),
 )
 
 pub returns-in-Delivered : goal.returns-in-Delivered
@@ -24,4 +25,5 @@ returns-in-Delivered g c = record {
   };
   room = c.in_ok-receive_once.ensures.room;
   notes = c.receive_once.ensures.notes ∙ c.loop-call.invariant.2;
+  acts = λ p may. c.receive_once.ensures.acts p (c.loop-call.invariant.3 p may);
 }
