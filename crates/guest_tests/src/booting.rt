@@ -1,5 +1,5 @@
-//! What a description of two guests says, and what they are started from.
-ghost use Rattle.std.specs.Prelude.{◌≡◌, None, IfOk};
+//! How the guests of a description are booted.
+ghost use Rattle.std.specs.Prelude.{◌≡◌, IfOk, IfSome, None, Some, slice_get};
 ghost use Rattle.std.specs.Bool.{OnTrue};
 ghost use Rattle.node_frames.specs.Layout.{layout_of};
 ghost use Rattle.machine_desc.specs.declared.machine.GuestSpec.{GuestSpec};
@@ -7,14 +7,94 @@ ghost use Rattle.machine_desc.specs.Described.{described_seen};
 ghost use Rattle.machine_desc.specs.Accepted.{IsDescribed};
 ghost use Rattle.unbuilt_keys.specs.Unbuilt.{unbuilt as first_unbuilt};
 ghost use Rattle.run_workers.specs.Starting.{IsSource, AreSources, AreServed};
+ghost use Rattle.guest_tests.specs.Ready.{HasSize, IsReady, AreReady};
 
+use crate::guest_lock_turns::Started;
+use crate::lane::{Lane, Size};
+use crate::pair::Pair;
 use boot_frames::{admit, needs_of};
 use cow_disk::Disk;
 use elf_image::load_raw;
+use frame_words::FrameTable;
+use guest_core::Guest;
 use machine_desc::{GuestSpec, Machine, Plan, read};
-use run_workers::{Source, SourceList};
+use run_workers::{Booted, Source, SourceList, boot};
+use shootdown::ProcToken;
 use std::alloc::{AllocError, Global};
 use unbuilt_keys::unbuilt;
+use wire_queue::Wires;
+
+/// Two guests of three pages and one virtual processor each on one node, and a processor for each.
+const TWO_GUESTS: &str = r#"
+[machine]
+nodes = 1
+frames = 6
+processors = [0, 0]
+[[cell]]
+nodes = [0]
+lend = 0
+[[guest]]
+image = "first.raw"
+form = "raw"
+pages = 3
+vcpus = 1
+node = 0
+[[guest]]
+image = "second.raw"
+form = "raw"
+pages = 3
+vcpus = 1
+node = 0
+"#;
+
+/// The same guests on the first of two nodes, which they fill; the second processor is of the other node.
+pub(crate) const ON_TWO_NODES: &str = r#"
+[machine]
+nodes = 2
+frames = 6
+processors = [0, 1]
+[[cell]]
+nodes = [0, 1]
+lend = 0
+[[guest]]
+image = "first.raw"
+form = "raw"
+pages = 3
+vcpus = 1
+node = 0
+[[guest]]
+image = "second.raw"
+form = "raw"
+pages = 3
+vcpus = 1
+node = 0
+"#;
+
+/// The same guests on the first of two nodes, of which the second one has the processors; a page that a processor misses twice gets a
+/// replica there.
+pub(crate) const FAR_FROM_HOME: &str = r#"
+[machine]
+nodes = 2
+frames = 6
+processors = [1, 1]
+[[cell]]
+nodes = [0, 1]
+lend = 0
+[policy]
+replicate = 2
+[[guest]]
+image = "first.raw"
+form = "raw"
+pages = 3
+vcpus = 1
+node = 0
+[[guest]]
+image = "second.raw"
+form = "raw"
+pages = 3
+vcpus = 1
+node = 0
+"#;
 
 /// The words of a raw image.
 fn file_of(alloc: Global, program: &[u32]) -> Result<Vec<u8>, AllocError> {
@@ -103,4 +183,159 @@ pub(crate) fn described(
     }
     let sources = sources(alloc, machine.guests.as_slice(), first, second)?;
     Ok((machine, plan, sources))
+}
+
+/// The size of a guest on a machine; none where there is no such guest.
+fn size_at(machine: &Machine, number: usize) -> Option<Size>
+    ensures { IfSome result (λ size. HasSize machine.now number size.vcpus size.pages size.nodes) }
+{
+    let spec = machine.guests.as_slice().get(number)?;
+    Some(Size {
+        vcpus: spec.vcpus,
+        pages: spec.pages,
+        nodes: machine.shape.nodes,
+    })
+}
+
+/// The first two of each; none where there are fewer.
+fn first_two<A: Drop, B: Drop>(some: Vec<A>, others: Vec<B>) -> Option<((A, B), (A, B))>
+    ensures first { IfSome result (λ two. (slice_get some.items 0 ≡ Some two.0.0) × (slice_get others.items 0 ≡ Some two.0.1)) }
+    ensures second { IfSome result (λ two. (slice_get some.items 1 ≡ Some two.1.0) × (slice_get others.items 1 ≡ Some two.1.1)) }
+{
+    let mut some = some.into_iter();
+    let mut others = others.into_iter();
+    let first = (some.next()?, others.next()?);
+    let second = (some.next()?, others.next()?);
+    Some((first, second))
+}
+
+/// A guest at its start, with the token of its processor and its size.
+#[derive(Drop)]
+struct Ready {
+    guest: Guest,
+    token: ProcToken,
+    size: Size,
+}
+
+/// Two guests at their starts, and what they share.
+#[derive(Drop)]
+struct TwoReady {
+    table: FrameTable,
+    wires: Wires,
+    first: Ready,
+    second: Ready,
+}
+
+/// Boots the guests of a description.
+fn booted(
+    alloc: Global,
+    machine: &Machine,
+    plan: &Plan,
+    sources: SourceList,
+) -> Result<Booted, AllocError>
+    requires described { IsDescribed machine.now plan.now }
+    requires built { first_unbuilt (described_seen machine.now plan.now) ≡ None }
+    requires served { AreServed (layout_of machine.now.shape) machine.now.lends machine.now.cache machine.now.guests }
+    requires sources { AreSources machine.now.guests sources }
+    ensures { IfOk result (λ b. AreReady machine.now b.guests.items b.tokens (record { table = b.table; wires = b.wires })) }
+{
+    boot(alloc, machine, plan, sources)
+}
+
+/// The first two guests of those that were booted, which have these sizes; none where there are fewer.
+fn two_of(machine: &Machine, booted: Booted, one: Size, other: Size) -> Option<TwoReady>
+    requires ready { AreReady machine.now booted.guests.items booted.tokens (record { table = booted.table; wires = booted.wires }) }
+    requires first { HasSize machine.now 0 one.vcpus one.pages one.nodes }
+    requires second { HasSize machine.now 1 other.vcpus other.pages other.nodes }
+    ensures first { IfSome result (λ two. IsReady two.first.size.vcpus two.first.size.pages two.first.size.nodes (record { table = two.table; wires = two.wires }) 0 two.first.guest two.first.token) }
+    ensures second { IfSome result (λ two. IsReady two.second.size.vcpus two.second.size.pages two.second.size.nodes (record { table = two.table; wires = two.wires }) 1 two.second.guest two.second.token) }
+{
+    let _ = machine;
+    let Booted {
+        guests,
+        tokens,
+        table,
+        holder: _,
+        wires,
+    } = booted;
+    let (first, second) = first_two(guests, tokens.into_vec())?;
+    Some(TwoReady {
+        table,
+        wires,
+        first: Ready {
+            guest: first.0,
+            token: first.1,
+            size: one,
+        },
+        second: Ready {
+            guest: second.0,
+            token: second.1,
+            size: other,
+        },
+    })
+}
+
+/// The two guests of a description at their starts. An error is want of memory, or a description that can't be run.
+fn two_ready(
+    alloc: Global,
+    text: &str,
+    first: &[u32],
+    second: &[u32],
+) -> Result<TwoReady, AllocError>
+    ensures first { IfOk result (λ two. IsReady two.first.size.vcpus two.first.size.pages two.first.size.nodes (record { table = two.table; wires = two.wires }) 0 two.first.guest two.first.token) }
+    ensures second { IfOk result (λ two. IsReady two.second.size.vcpus two.second.size.pages two.second.size.nodes (record { table = two.table; wires = two.wires }) 1 two.second.guest two.second.token) }
+{
+    let (machine, plan, sources) = described(alloc, text, first, second)?;
+    let (Some(one), Some(other)) = (size_at(&machine, 0), size_at(&machine, 1)) else {
+        return Err(AllocError);
+    };
+    let booted = booted(alloc, &machine, &plan, sources)?;
+    two_of(&machine, booted, one, other).ok_or(AllocError)
+}
+
+/// Each guest with the token of its processor, for calls without a lock.
+fn pair_of(two: TwoReady) -> Pair
+    requires first { IsReady two.first.size.vcpus two.first.size.pages two.first.size.nodes (record { table = two.table; wires = two.wires }) 0 two.first.guest two.first.token }
+    requires second { IsReady two.second.size.vcpus two.second.size.pages two.second.size.nodes (record { table = two.table; wires = two.wires }) 1 two.second.guest two.second.token }
+{
+    Pair {
+        table: two.table,
+        wires: two.wires,
+        first: Lane::new(two.first.guest, two.first.token, two.first.size),
+        second: Lane::new(two.second.guest, two.second.token, two.second.size),
+    }
+}
+
+/// The first guest, for calls under a lock.
+fn started_of(two: TwoReady) -> Started
+    requires { IsReady two.first.size.vcpus two.first.size.pages two.first.size.nodes (record { table = two.table; wires = two.wires }) 0 two.first.guest two.first.token }
+{
+    Started {
+        guest: two.first.guest,
+        token: two.first.token,
+        table: two.table,
+        wires: two.wires,
+    }
+}
+
+/// The two guests at their starts, each with the token of its processor.
+pub(crate) fn two_guests(alloc: Global, first: &[u32], second: &[u32]) -> Result<Pair, AllocError> {
+    guests_of(alloc, TWO_GUESTS, first, second)
+}
+
+/// The same of a description of two guests.
+pub(crate) fn guests_of(
+    alloc: Global,
+    text: &str,
+    first: &[u32],
+    second: &[u32],
+) -> Result<Pair, AllocError> {
+    let two = two_ready(alloc, text, first, second)?;
+    Ok(pair_of(two))
+}
+
+/// The first of two guests at its start, with this program, and what it shares with the other one.
+pub(crate) fn first_guest(alloc: Global, program: &[u32]) -> Result<Started, AllocError> {
+    let two = two_ready(alloc, TWO_GUESTS, program, program)?;
+    Ok(started_of(two))
 }

@@ -1,7 +1,21 @@
-//! Tests of the guests of a description under the monitor, and of what a run leaves of the machine's frames.
+//! Tests of a guest under the monitor: its own calls, a turn under its lock, and what stands on the wires between two.
 #![tactic(auto)]
 
 #[cfg(test)]
 mod booting;
+#[cfg(test)]
+mod guest_core_calls;
+#[cfg(test)]
+mod guest_core_moves;
+#[cfg(test)]
+mod guest_core_packets;
+#[cfg(test)]
+mod guest_core_policy;
+#[cfg(test)]
+mod guest_lock_turns;
+#[cfg(test)]
+mod lane;
+#[cfg(test)]
+mod pair;
 #[cfg(test)]
 mod run_workers_frames;

@@ -1,16 +1,20 @@
 //! A whole run, and what it leaves of the machine's frames.
-ghost use Rattle.std.specs.Prelude.{◌≡◌, ◌<◌, length};
+ghost use Rattle.std.specs.Prelude.{◌≡◌, ◌*◌, ◌<◌, IfOk, length};
 ghost use Rattle.std.specs.Bool.{OnTrue};
 ghost use Rattle.frame_words.specs.Holders.{IsMade};
 
 use crate::booting::described;
+use crate::guest_core_calls::PRINTS_A;
 use base_words::{CellId, End, FrameNo};
 use frame_words::{Borrow, FrameTable, Holder, Took, borrow, take};
 use machine_desc::Machine;
 use outside_io::FreeGate;
-use run_workers::finish;
-use std::alloc::AllocError;
+use run_workers::{Finished, finish};
+use std::alloc::{AllocError, Global};
+use std::process::Abort;
+use std::sync::Wait;
 use std::test::Fail;
+use std::thread::Threads;
 
 /// Two guests of three pages each, at home on a node of four frames. The other node has four more, of which its cell lends two. The
 /// first guest halts at its fifth step, and the second is ended by the plan.
@@ -51,20 +55,26 @@ vcpu = 0
 steps = 3
 "#;
 
-/// Prints A and halts: LUI 1, CFFF; ORI 1, 1, F000; ADDIU 2, 0, 41; SW 2, 0(1); SW 2, 4(1).
-const PRINTS_A: [u32; 5] = [
-    0x3C01_CFFF,
-    0x3421_F000,
-    0x2402_0041,
-    0xAC22_0000,
-    0xAC22_0004,
-];
-
-/// Whether the machine has two nodes of four frames and two cells.
+/// Whether the machine has eight frames on two nodes, and two cells.
 fn is_small(machine: &Machine) -> bool
-    ensures { OnTrue result ((machine.now.shape.nodes ≡ 2) × (machine.now.shape.frames ≡ 4) × (length machine.now.lends ≡ 2)) }
+    ensures frames { OnTrue result (machine.now.shape.nodes * machine.now.shape.frames ≡ 8) }
+    ensures lends { OnTrue result (length machine.now.lends ≡ 2) }
 {
     machine.shape.nodes == 2 && machine.shape.frames == 4 && machine.lends.len() == 2
+}
+
+/// The run of the two guests.
+fn whole_run<R: Abort + Sync + Threads + Wait>(
+    rt: &R,
+    alloc: Global,
+) -> Result<Finished, AllocError>
+    ensures made { IfOk result (λ f. IsMade f.table f.holder) }
+    ensures frames { IfOk result (λ f. f.table.terms.frames ≡ 8) }
+    ensures lends { IfOk result (λ f. length f.table.terms.lends ≡ 2) }
+{
+    let (machine, plan, sources) = described(alloc, TWO_GUESTS, &PRINTS_A, &PRINTS_A)?;
+    assert!(rt; is_small(&machine), "the machine is as described");
+    finish(rt, alloc, &machine, &plan, sources, &FreeGate)
 }
 
 /// Whether a frame can be taken, under this generation.
@@ -76,22 +86,13 @@ fn is_free(table: &FrameTable, holder: &mut Holder, frame: u32, generation: u32)
     take(table, holder, FrameNo(frame)) == Took::Took(generation)
 }
 
-#[test]
-fn all_frames_and_loans_are_free_once_guests_have_ended_one_by_one(
-    rt: HostRuntime,
-) -> Result<(), Fail> {
-    let alloc = rt.alloc();
-    let (machine, plan, sources) = described(alloc, TWO_GUESTS, &PRINTS_A, &PRINTS_A)?;
-    assert!(rt; is_small(&machine), "the machine is as described");
-    let mut done = finish(&rt, alloc, &machine, &plan, sources, &FreeGate)?;
-    let ends = match done.record.guests.as_slice() {
-        [first, second] => (first.end, second.end),
-        _ => return Err(AllocError.into()),
-    };
-    assert_eq!(rt; ends, (End::Halted, End::Budget), "how they ended");
-    let table = &done.table;
-    let holder = &mut done.holder;
-    let free = [
+/// Whether each frame can be taken: those that the guests had under their second generation, and the two others under their first.
+fn are_free(table: &FrameTable, holder: &mut Holder) -> [bool; 8]
+    requires made { IsMade table.now holder.old }
+    requires frames { table.now.terms.frames ≡ 8 }
+    ensures same { holder.new.table ≡ holder.old.table }
+{
+    [
         is_free(table, holder, 0, 2),
         is_free(table, holder, 1, 2),
         is_free(table, holder, 2, 2),
@@ -100,22 +101,45 @@ fn all_frames_and_loans_are_free_once_guests_have_ended_one_by_one(
         is_free(table, holder, 5, 2),
         is_free(table, holder, 6, 1),
         is_free(table, holder, 7, 1),
-    ];
+    ]
+}
+
+/// What is answered to a loan of the first cell, and then to three of the other.
+fn loans(table: &FrameTable, holder: &mut Holder) -> [Borrow; 4]
+    requires made { IsMade table.now holder.old }
+    requires lends { length table.now.terms.lends ≡ 2 }
+{
+    [
+        borrow(table, holder, CellId(0)),
+        borrow(table, holder, CellId(1)),
+        borrow(table, holder, CellId(1)),
+        borrow(table, holder, CellId(1)),
+    ]
+}
+
+#[test]
+fn all_frames_and_loans_are_free_once_guests_have_ended_one_by_one(
+    rt: HostRuntime,
+) -> Result<(), Fail> {
+    let mut done = whole_run(&rt, rt.alloc())?;
+    let ends = match done.record.guests.as_slice() {
+        [first, second] => Some((first.end, second.end)),
+        _ => None,
+    };
+    assert_eq!(rt; ends, Some((End::Halted, End::Budget)), "how they ended");
+    let free = are_free(&done.table, &mut done.holder);
     assert_eq!(rt; free.as_slice(), [true; 8].as_slice(), "frames");
-    let none = borrow(table, holder, CellId(0));
+    let loans = loans(&done.table, &mut done.holder);
     assert_eq!(rt;
-        none,
-        Borrow::AtLimit(0),
-        "a loan of the cell that lends nothing"
+        loans.as_slice(),
+        [
+            Borrow::AtLimit(0),
+            Borrow::Lent,
+            Borrow::Lent,
+            Borrow::AtLimit(2),
+        ]
+        .as_slice(),
+        "the first cell lends nothing, and the other one two frames"
     );
-    let one = borrow(table, holder, CellId(1));
-    let two = borrow(table, holder, CellId(1));
-    let three = borrow(table, holder, CellId(1));
-    assert_eq!(rt;
-        (one, two),
-        (Borrow::Lent, Borrow::Lent),
-        "the loans of the other"
-    );
-    assert_eq!(rt; three, Borrow::AtLimit(2), "one more");
     Ok(())
 }
