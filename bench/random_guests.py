@@ -1,16 +1,20 @@
 #!/usr/bin/env python3
 """Random guests, run by disco and by an interpreter that knows nothing of it, and their reports compared.
 
-    python3 bench/random_guests.py DISCO [RUNS] [SEED]
+    python3 bench/random_guests.py DISCO [RUNS] [SEED] [--sharing PROBABILITY]
 
 DISCO is the built program. Run number n of RUNS (100 if none is given) is that of the seed SEED + n (SEED is 0 if none is given), so each
 can be repeated alone. A run is a machine with one to eight guests, their disks, their input and a plan. The guests do all that a guest can
 do: instructions on values near an edge, accesses to everywhere, exceptions, their own TLB, user code, interrupts, disk commands, packets;
 and the plan and mostly a policy move their pages from node to node and replicate them.
+With a PROBABILITY above 0 so many of the runs, from none (0) to each (1), are of guests that read the same few blocks and send each other
+whole pages on a machine whose cells keep a few blocks and have few frames left; and in each run whole pages are handed on. Without it no
+cell keeps a block and each packet is copied, which is what a program does that doesn't share.
 Each run is made by `disco --private` and by `disco --machine`, and each report is compared byte by byte: consoles, ends, and under
-`--machine` the steps, the refills, the moves, the skips and the packets received. Where a plan leaves it open when a packet arrives the latter
-isn't compared. Where it leaves open which of a guest's moves begin, only how many were asked for; where that depends on moves before, not even
-that; and where it leaves open when its pages move or have replicas, no refills.
+`--machine` the steps, the refills, the moves, the skips, the breaks, what was shared and the packets received. Where a plan leaves it open
+when a packet arrives the latter isn't compared. Where it leaves open which of a guest's moves begin, only how many were asked for; where that
+depends on moves before, not even that; where it leaves open when its pages move or have replicas, no refills; and where guests of two
+processors read blocks that one cell keeps, none of these but the steps and the packets.
 
 On a difference its seed is named, its folder is kept, the place where the reports part is shown, and the end is 1.
 """
@@ -29,8 +33,9 @@ from collections.abc import Sequence
 from dataclasses import dataclass, field
 
 from generator.scenario import Scenario, scenario
-from reference import Coverage, Monitor, Openness, private_report
+from reference import Coverage, Monitor, NeverGoesOn, Openness, private_report
 from reference.exceptions import Code
+from reference.moves import BlockRead, Delivery
 from reference.opcode_maps import ENCODINGS
 
 RUNS = 100
@@ -52,6 +57,10 @@ class Totals:
     received: int = 0
     moves: int = 0
     skips: int = 0
+    breaks: int = 0
+    shared_blocks: int = 0
+    shared_packets: int = 0
+    endless: int = 0
     open_guests: int = 0
     accesses: int = 0
     misses: int = 0
@@ -63,7 +72,7 @@ class Totals:
         self.guests += len(monitor.guests)
         self.halted += sum(monitored.guest.has_halted() for monitored in monitor.guests)
         self.steps += sum(monitored.steps for monitored in monitor.guests)
-        self.received += sum(monitored.received for monitored in monitor.guests)
+        self.received += sum(len(monitored.received) for monitored in monitor.guests)
         self.open_guests += sum(each != Openness() for each in monitor.openness)
         for host in (monitored.host for monitored in monitor.guests):
             self.refills += host.refills
@@ -71,15 +80,19 @@ class Totals:
             self.misses += host.misses
             self.moves += host.pages.moves
             self.skips += host.pages.skips
+            self.breaks += host.pages.breaks
+            self.shared_blocks += host.pages.taken[BlockRead]
+            self.shared_packets += host.pages.taken[Delivery]
         self.coverage.add(monitor.coverage())
 
     def line(self) -> str:
         kinds = sum(name in self.coverage.instructions for name in ENCODINGS)
         return (
-            f"{self.runs} runs ({self.open_runs} of them alone only), "
+            f"{self.runs} runs ({self.open_runs} of them alone only, {self.endless} more never go on), "
             f"{self.guests} guests ({self.halted} halted, {self.open_guests} with open sums), {self.steps} steps, "
             f"{self.refills} refills, {self.misses} of {self.accesses} data accesses remote, {self.moves} moves, {self.skips} skips, "
-            f"{self.received} packets, {kinds} of {len(ENCODINGS)} kinds of instructions, "
+            f"{self.breaks} breaks, {self.shared_blocks} blocks shared, {self.shared_packets} of {self.received} packets shared, "
+            f"{kinds} of {len(ENCODINGS)} kinds of instructions, "
             f"{len(self.coverage.exceptions)} of {len(Code)} kinds of exceptions"
         )
 
@@ -100,7 +113,7 @@ def report_of_disco(disco: pathlib.Path, option: str, folder: pathlib.Path) -> b
     return status + done.stdout + done.stderr
 
 
-SUMS = re.compile(rb"(\nsums steps \d+) refills (\d+) moves (\d+) skips (\d+) ")
+SUMS = re.compile(rb"(\nsums steps \d+) refills (\d+) moves (\d+) skips (\d+) breaks (\d+) shared (\d+) ")
 
 
 def without_open_sums(report: bytes, openness: Sequence[Openness]) -> bytes:
@@ -108,11 +121,12 @@ def without_open_sums(report: bytes, openness: Sequence[Openness]) -> bytes:
     guests = iter(openness)
 
     def sums(found: re.Match[bytes]) -> bytes:
-        steps, refills, moves, skips = found.groups()
+        steps, refills, moves, skips, breaks, shared = found.groups()
         each = next(guests, Openness())
         asked = b"open" if each.asked else b"%d" % (int(moves) + int(skips))
         begun = b"asked " + asked if each.moves else b"moves %s skips %s" % (moves, skips)
-        return b"%s refills %s %s " % (steps, b"open" if each.refills else refills, begun)
+        taken = b"shared open" if each.shared else b"breaks %s shared %s" % (breaks, shared)
+        return b"%s refills %s %s %s " % (steps, b"open" if each.refills else refills, begun, taken)
 
     return SUMS.sub(sums, report)
 
@@ -146,11 +160,16 @@ def differences(disco: pathlib.Path, folder: pathlib.Path, made: Scenario, monit
     return told
 
 
-def compare(disco: pathlib.Path, seed: int, totals: Totals) -> bool:
+def compare(disco: pathlib.Path, seed: int, sharing: float, totals: Totals) -> bool:
     """Whether the reports of a seed's run are equal. The folder of one that isn't is kept."""
-    made = scenario(seed)
-    monitor = Monitor(made.starts, made.hosts, made.machine(), made.policy)
-    monitor.carry_out(made.plan)
+    made = scenario(seed, sharing)
+    monitor = Monitor(made.starts, made.hosts, made.machine(), made.policy, hands_on=sharing > 0)
+    try:
+        monitor.carry_out(made.plan)
+    except NeverGoesOn as told:
+        print(f"seed {seed}: not run, as {told} never goes on")
+        totals.endless += 1
+        return True
     totals.add(monitor)
     folder = pathlib.Path(tempfile.mkdtemp(prefix=f"random_guests_{seed}_"))
     write_files(folder, made)
@@ -172,14 +191,24 @@ def built_program(path: str) -> pathlib.Path:
     return found
 
 
+def probability(text: str) -> float:
+    """A number from 0 to 1."""
+    number = float(text)
+    if not 0 <= number <= 1:
+        raise argparse.ArgumentTypeError(f"{text} is no probability")
+    return number
+
+
 def main() -> int:
     parser = argparse.ArgumentParser(description=__doc__.split("\n", 1)[0])
     parser.add_argument("disco", type=built_program, help="the built program")
     parser.add_argument("runs", type=int, nargs="?", default=RUNS, help="how many runs (%(default)s)")
     parser.add_argument("seed", type=int, nargs="?", default=0, help="the seed of the first (%(default)s)")
+    parser.add_argument("--sharing", type=probability, default=0.0, metavar="PROBABILITY", help="how many of the runs share (none)")
     given = parser.parse_args()
     totals = Totals()
-    differ = sum(not compare(given.disco, seed, totals) for seed in range(given.seed, given.seed + given.runs))
+    seeds = range(given.seed, given.seed + given.runs)
+    differ = sum(not compare(given.disco, seed, given.sharing, totals) for seed in seeds)
     verdict = f"{differ} of the runs differ" if differ else "all equal"
     print(f"{totals.line()}: {verdict}")
     return 1 if differ else 0

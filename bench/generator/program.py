@@ -6,7 +6,7 @@ from collections.abc import Callable
 from dataclasses import dataclass
 from random import Random
 
-from . import operands, pieces, system_pieces
+from . import operands, pieces, sharing_pieces, system_pieces
 from .assembler import KERNEL, Assembler, encode
 from .kernel import EXCEPTIONS_LEFT, HANDLERS_END, LAST_WORDS, PAGE_TABLE_ENTRIES, PASSES_LEFT, PROGRAM, REFILLS_LEFT
 from .kernel import Handlers, last_words, next_pass, put_handlers
@@ -65,6 +65,15 @@ WITH_PACKETS: Weighted = (
     (3, system_pieces.many_receipts),
 )
 WITHOUT_PACKETS: Weighted = ((1, system_pieces.send), (1, system_pieces.arm))
+WITH_SHARING: Weighted = ((16, sharing_pieces.blocks),)
+WITH_WHOLE_PAGES: Weighted = (
+    (2, system_pieces.send),
+    (4, system_pieces.arm),
+    (1, system_pieces.many_sends),
+    (8, system_pieces.many_receipts),
+    (12, sharing_pieces.whole_pages),
+    (24, sharing_pieces.armed_page),
+)
 WITH_MANY_PAGES: Weighted = ((8, system_pieces.sweep),)
 
 
@@ -77,6 +86,7 @@ class Traits:
     has_disk: bool
     has_packets: bool
     receivers: tuple[int, ...]  # whom it may send to
+    shares: bool = False  # does most with few blocks and pages that others have too
 
     def pieces(self) -> list[Piece]:
         """The pieces that make sense for it, each as often as it is to come."""
@@ -84,10 +94,16 @@ class Traits:
             *PIECES,
             *(WITH_PROCESSORS if self.processors > 1 else ()),
             *(WITH_DISK if self.has_disk else WITHOUT_DISK),
-            *(WITH_PACKETS if self.has_packets else WITHOUT_PACKETS),
+            *self.packet_pieces(),
             *(WITH_MANY_PAGES if self.pages > 48 else ()),
+            *(WITH_SHARING if self.shares else ()),
         ]
         return [piece for weight, piece in rows for _ in range(weight)]
+
+    def packet_pieces(self) -> Weighted:
+        if not self.has_packets:
+            return WITHOUT_PACKETS
+        return WITH_WHOLE_PAGES if self.shares else WITH_PACKETS
 
 
 def image(random: Random, traits: Traits) -> bytes:

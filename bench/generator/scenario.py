@@ -6,15 +6,19 @@ import struct
 from dataclasses import dataclass, field
 from random import Random
 
-from reference import Ask, Collapse, Input, Item, Machine, Migrate, PageMove, Policy, Replicate, Run, Start
+from reference import Ask, Collapse, DiskFile, Input, Item, Machine, Migrate, PageMove, Policy, Replicate, Run, Start
+from reference.cache import Cache
+from reference.frames import AdmissionFault, Frames, Holder
 
 from .assembler import KERNEL
 from .kernel import PROGRAM
 from .program import Traits, disk, image
+from .sharing_pieces import PAGES, SENT_PAGES
 
 GUESTS_MOST = 8
 STEPS_AT_THE_END = 20_000  # enough for most guests to halt
 DISKS = {"d0.img": (9001, 8192, 4096), "d1.img": (12288, 5000, 1, 0)}
+SHARED_DISKS = {"d0.img": (9001, 8192, 4096, 16384), "d1.img": (12288, 5000)}
 
 
 @dataclass
@@ -27,21 +31,28 @@ class Scenario:
     hosts: list[int] = field(default_factory=list)  # each guest's processor of the machine
     plan: list[Item] = field(default_factory=list)
     cells: list[list[int]] = field(default_factory=list)
+    lends: list[int] = field(default_factory=list)  # of each cell
     frames: int = 0  # of each node
+    cache: int = 0  # frames of each cell for blocks
     processors: list[int] = field(default_factory=list)  # the node of each
     homes: list[int] = field(default_factory=list)
     policy: Policy = Policy()
 
     def machine(self) -> Machine:
-        return Machine(self.cells, self.frames, self.homes, self.processors)
+        return Machine(self.cells, self.frames, self.homes, self.processors, self.lends, self.cache)
 
     def description(self) -> bytes:
         return ("\n".join(self.lines) + "\n").encode()
 
 
-def scenario(seed: int) -> Scenario:
-    """The run of a seed. Either all guests share a processor, and may send to each other, or each has its own or shares it with some."""
+def scenario(seed: int, sharing: float = 0) -> Scenario:
+    """The run of a seed. So many of all are runs in which blocks and pages are shared, from none (0) to each (1)."""
     random = Random(seed)
+    return sharing_run(Random(f"shares {seed}")) if sharing and Random(f"kind {seed}").random() < sharing else any_run(random)
+
+
+def any_run(random: Random) -> Scenario:
+    """Either all guests share a processor, and may send to each other, or each has its own or shares it with some."""
     made = Scenario()
     made.files = {name: disk(random, random.choice(sizes)) for name, sizes in DISKS.items()}
     guests = random.choice((1, 2, 3, 3, 4, 5, 8))
@@ -55,6 +66,76 @@ def scenario(seed: int) -> Scenario:
     put_policy(made, random)
     put_work(made, random, traits, together)
     return made
+
+
+def sharing_run(random: Random) -> Scenario:
+    """Few frames are left, few blocks are read, and pages are sent whole. Mostly all guests share a processor."""
+    made = Scenario()
+    made.files = {name: disk(random, random.choice(sizes)) for name, sizes in SHARED_DISKS.items()}
+    guests = random.choice((1, 2, 2, 3, 3, 4, 6))
+    together = random.random() < 0.9
+    processors = 1 if together else random.randrange(2, 4)
+    made.hosts = [random.randrange(processors) for _ in range(guests)]
+    traits = [sharing_traits(random, guests, together) for _ in range(guests)]
+    put_tight_machine(made, random, processors, traits)
+    for number, each in enumerate(traits):
+        put_guest(made, random, number, each)
+    put_policy(made, random)
+    put_work(made, random, traits, together)
+    return made
+
+
+def sharing_traits(random: Random, guests: int, together: bool) -> Traits:
+    receivers = (*range(guests), *range(guests), *range(guests), guests, 0xFFFF_FFFF)
+    return Traits(
+        pages=random.choice((10, 10, 11)),
+        processors=random.choice((1, 1, 1, 2, 3)),
+        has_disk=random.random() < 0.85,
+        has_packets=together,
+        receivers=receivers if together else (GUESTS_MOST, 9, 0xFFFF_FFFF),
+        shares=True,
+    )
+
+
+def put_tight_machine(made: Scenario, random: Random, processors: int, traits: list[Traits]) -> None:
+    """Nodes with room for caches and pages, and a few frames more. Cells lend nothing, a few frames, or all that they have."""
+    nodes = random.choice((1, 1, 2, 3, 4))
+    made.processors = [random.randrange(nodes) for _ in range(processors)]
+    made.homes = [random.randrange(nodes) for _ in traits]
+    made.cache = random.choice((0, 1, 1, 2, 3, 4, 6))
+    made.cells = random_cells(random, nodes)
+    made.lends = [random.choice((0, 1, 3, 10, 1000)) if len(made.cells) > 1 else 0 for _ in made.cells]
+    made.frames = 1
+    while not fits(made.machine(), traits):
+        made.frames += 1
+    made.frames += random.choice((0, 0, 0, 1, 1, 2, 5, 30))
+    made.lines += ["[machine]", f"nodes = {nodes}", f"frames = {made.frames}", f"processors = {made.processors}"]
+    made.lines.append(f"cache = {made.cache}")
+    for cell, lend in zip(made.cells, made.lends, strict=True):
+        made.lines += ["[[cell]]", f"nodes = {cell}", f"lend = {lend}"]
+
+
+def random_cells(random: Random, nodes: int) -> list[list[int]]:
+    """Each node joins a cell, in any order."""
+    count = random.randrange(1, nodes + 1)
+    order = random.sample(range(nodes), nodes)
+    return [order[number::count] for number in range(count)]
+
+
+def fits(machine: Machine, traits: list[Traits]) -> bool:
+    """Whether caches and guests get all their frames."""
+    frames = Frames(machine)
+    try:
+        caches = [Cache(frames, cell) for cell in range(len(machine.cells))]
+    except AdmissionFault:
+        return False
+    for number, each in enumerate(traits):
+        holder = Holder(frames, machine.home_cell(number))
+        if holder.room() < each.pages:
+            return False
+        for _ in range(each.pages):
+            holder.find(machine.boot_order(machine.homes[number]))
+    return len(caches) == len(machine.cells)
 
 
 def guest_traits(random: Random, guests: int, together: bool) -> Traits:
@@ -78,6 +159,7 @@ def put_machine(made: Scenario, random: Random, processors: int, pages: int) -> 
     made.cells = [list(range(nodes))]
     if nodes > 1 and random.random() < 0.5:
         made.cells = [list(range(nodes - 1)), [nodes - 1]]
+        made.lends = [made.frames * nodes] * 2
         for cell in made.cells:
             made.lines += ["[[cell]]", f"nodes = {cell}", f"lend = {made.frames * nodes}"]
 
@@ -87,10 +169,11 @@ def put_guest(made: Scenario, random: Random, number: int, traits: Traits) -> No
     is_raw = random.random() < 0.5
     name = f"g{number}.{'raw' if is_raw else 'elf'}"
     made.files[name] = memory if is_raw else elf(random, memory)
-    disk_name = random.choice(list(DISKS)) if traits.has_disk else None
+    disk_name = random.choice(("d0.img", "d0.img", "d1.img") if traits.shares else list(DISKS)) if traits.has_disk else None
     made.lines += ["[[guest]]", f'image = "{name}"', f"pages = {traits.pages}", f"vcpus = {traits.processors}"]
-    made.homes.append(random.choice(made.machine().nodes()))
-    made.lines.append(f"node = {made.homes[-1]}")
+    if not traits.shares:
+        made.homes.append(random.choice(made.machine().nodes()))
+    made.lines.append(f"node = {made.homes[number]}")
     made.lines += ['form = "raw"'] * is_raw + [f'disk = "{disk_name}"'] * traits.has_disk
     made.starts.append(
         Start(
@@ -98,7 +181,7 @@ def put_guest(made: Scenario, random: Random, number: int, traits: Traits) -> No
             entry=KERNEL if is_raw else KERNEL + PROGRAM,
             pages=traits.pages,
             processors=traits.processors,
-            disk=made.files[disk_name] if disk_name else None,
+            disk=DiskFile(disk_name, made.files[disk_name]) if disk_name else None,
             inputs=tuple(inputs(random)),
         )
     )
@@ -156,7 +239,7 @@ def ask_lines(ask: Ask) -> list[str]:
 
 def move_lines(move: PageMove) -> list[str]:
     """A collapse has no node."""
-    lines = [f"page = {move.page}", f'kind = "{move.kind}"']
+    lines = [f"page = {move.page}", f'kind = "{move.kind.value}"']
     return lines if isinstance(move, Collapse) else [*lines, f"node = {move.node}"]
 
 
@@ -166,9 +249,11 @@ def guest_asks(made: Scenario, random: Random, traits: list[Traits]) -> list[lis
     by_anyone = random.random() < 0.3
     asks = []
     for number, each in enumerate(traits):
-        pages = random.choice((2, 8, each.pages))
+        pages = range(random.choice((2, 8, each.pages)))
+        if each.shares:
+            pages = random.choice((pages, PAGES, PAGES + SENT_PAGES))
         askers = range(len(made.processors)) if by_anyone else [made.hosts[number]]
-        moves = [page_move(made, random, random.randrange(pages)) for _ in range(random.randrange(most + 1))]
+        moves = [page_move(made, random, random.choice(pages)) for _ in range(random.randrange(most + 1))]
         asks.append([Ask(random.choice(askers), number, move) for move in moves])
     return asks
 
@@ -190,7 +275,7 @@ def with_asks(random: Random, runs: list[Run], asks: list[Ask]) -> list[Item]:
 def guest_items(random: Random, number: int, traits: Traits, together: bool) -> list[Run]:
     """A guest's runs: short ones, where others take their turn in between, and then enough for the rest."""
     count = random.choice((0, 1, 3, 8)) if traits.processors == 1 and not together else random.choice((10, 40, 120))
-    longest = random.choice((5, 40, 200, 1000))
+    longest = random.choice((5, 40, 200, 1000) if not traits.shares else (5, 20, 40, 100, 300))
     runs = [Run(number, random.randrange(traits.processors), random.randrange(longest)) for _ in range(count)]
     rest = [Run(number, processor, STEPS_AT_THE_END) for processor in range(traits.processors)]
     random.shuffle(rest)

@@ -3,24 +3,27 @@
 `private_report` runs guests each alone. `Monitor` runs them as the monitor does, as far as its report tells.
 """
 
-from .devices import Input
-from .frames import Machine
+from .devices import DiskFile, Input
+from .frames import AdmissionFault, Machine
 from .machine import Coverage, Guest, Start, Watcher
-from .monitor import Monitor, private_report
+from .monitor import Monitor, NeverGoesOn, private_report
 from .moves import Collapse, Migrate, PageMove, Policy, Replicate
 from .openness import Openness
 from .plan import Ask, Item, Run
 
 __all__ = [
+    "AdmissionFault",
     "Ask",
     "Collapse",
     "Coverage",
+    "DiskFile",
     "Guest",
     "Input",
     "Item",
     "Machine",
     "Migrate",
     "Monitor",
+    "NeverGoesOn",
     "Openness",
     "PageMove",
     "Policy",

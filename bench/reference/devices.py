@@ -11,6 +11,7 @@ from .coprocessor import INPUT_INTERRUPT, PACKET_INTERRUPT, PROCESSOR_INTERRUPT
 from .words import WORD
 
 if TYPE_CHECKING:
+    from .frames import Frame
     from .machine import Guest
     from .processor import VirtualProcessor
 
@@ -41,22 +42,32 @@ class Input:
 
 
 @dataclass(frozen=True)
+class DiskFile:
+    """A file of blocks, which guests share that name it."""
+
+    name: str
+    content: bytes
+
+
+@dataclass(frozen=True)
 class Packet:
-    """What a guest sent, and to which number."""
+    """What a guest sent, to which number, and the frame that has the same bytes where the whole page is handed on."""
 
     receiver: int
     data: bytes
+    frame: Frame | None = None
 
 
 class Devices:
     """What the device page keeps for the whole guest."""
 
-    def __init__(self, guest: Guest, disk: bytes | None, inputs: Iterable[Input]) -> None:
+    def __init__(self, guest: Guest, disk: DiskFile | None, inputs: Iterable[Input]) -> None:
         self.guest = guest
         self.console = bytearray()
         self.inputs = deque(sorted(inputs, key=lambda entry: entry.at))
         self.queue: deque[int] = deque()
-        self.disk = None if disk is None else blocks_of(disk)
+        self.disk = None if disk is None else blocks_of(disk.content)
+        self.own_blocks = set[int]()  # that the guest has written
         self.sent: list[Packet] = []
         self.armed: int | None = None
         self.packet_length = 0
@@ -75,10 +86,21 @@ class Devices:
         register.store(self, processor, value)
         return True
 
-    def join_input(self, steps: int) -> None:
+    def join_input(self, steps: int) -> list[Input]:
         """The input that is due after so many steps of virtual processor 0 joins the queue."""
+        joined = []
         while self.inputs and self.inputs[0].at <= steps:
-            self.queue.extend(self.inputs.popleft().text)
+            joined.append(self.inputs.popleft())
+            self.queue.extend(joined[-1].text)
+        self.signal_input()
+        return joined
+
+    def take_back(self, joined: list[Input]) -> None:
+        """The input that joined last hasn't joined after all."""
+        for entry in reversed(joined):
+            self.inputs.appendleft(entry)
+            for _ in entry.text:
+                self.queue.pop()
         self.signal_input()
 
     def signal_input(self) -> None:
@@ -128,15 +150,20 @@ class Devices:
         processor.transfer.disk_page = value
 
     def command_disk(self, processor: VirtualProcessor, value: int) -> None:
-        processor.transfer.status = self.disk_status(processor.transfer, value)
-        if processor.transfer.status != DONE:
-            return
-        block, page = processor.transfer.block, processor.transfer.disk_page
-        if value == READ_BLOCK:
-            self.guest.watcher.block_comes(processor, page)
-            self.guest.replace_page(page, self.disk[block])
-        else:
-            self.disk[block] = self.guest.page(page)
+        status = self.disk_status(processor.transfer, value)
+        if status == DONE:
+            move = self.read_block if value == READ_BLOCK else self.write_block
+            move(processor, processor.transfer.block, processor.transfer.disk_page)
+        processor.transfer.status = status
+
+    def read_block(self, processor: VirtualProcessor, block: int, page: int) -> None:
+        self.guest.watcher.block_comes(processor, page, block, block in self.own_blocks)
+        self.guest.replace_page(page, self.disk[block])
+
+    def write_block(self, processor: VirtualProcessor, block: int, page: int) -> None:
+        self.guest.watcher.block_goes(processor, page)
+        self.disk[block] = self.guest.page(page)
+        self.own_blocks.add(block)
 
     def disk_status(self, transfer: Transfer, command: int) -> int:
         """The first reason against a command, or that there is none."""
@@ -158,7 +185,8 @@ class Devices:
         """The first bytes of a page go to a guest; nothing does where the page isn't there, or the length isn't one to a whole page."""
         page, length = processor.transfer.send_page, processor.transfer.send_length
         if page < self.guest.pages and 1 <= length <= PAGE:
-            self.sent.append(Packet(value, self.guest.page(page)[:length]))
+            frame = self.guest.watcher.page_goes(processor, page, length, value)
+            self.sent.append(Packet(value, self.guest.page(page)[:length], frame))
 
     def arm(self, processor: VirtualProcessor, value: int) -> None:
         """The next packet comes into that page; a number of no page disarms."""
@@ -169,7 +197,6 @@ class Devices:
 
     def receive(self, sender: int, data: bytes) -> None:
         """A packet comes into the armed page."""
-        self.guest.watcher.packet_comes(self.armed)
         self.guest.replace_page(self.armed, data)
         self.packet_length, self.packet_sender = len(data), sender
         self.guest.processors[0].coprocessor.set_line(PACKET_INTERRUPT, True)

@@ -1,114 +1,268 @@
-"""The processor on which a guest's virtual processors are loaded."""
+"""What the monitor does for a guest: the TLBs of its processors, the moves of its pages, and what its accesses are to the policy."""
 
 from __future__ import annotations
 
-from collections.abc import Iterable, Sequence
-from dataclasses import dataclass
+from collections.abc import Mapping
+from dataclasses import dataclass, field
+from enum import Enum, auto
 
-from .hardware_tlb import HardwareTlb
-from .machine import Watcher
-from .moves import Collapse, PageMove, Pages, Policy
+from .devices import PAGE
+from .frames import Frame, Machine
+from .hardware_tlb import Half, HardwareTlb
+from .machine import StepPutOff, Watcher
+from .moves import BlockRead, Cause, Collapse, Kind, Operation, OpenMove, PageMove, Policy
+from .pages import Pages
 from .processor import VirtualProcessor
-from .tlb import Entry, Use, is_direct
+from .tlb import DIRTY, Entry, Use, is_direct
 
 
-@dataclass(frozen=True)
-class Access:
-    """An address that is used, and the page of the guest to which it leads."""
+class Answer(Enum):
+    """What came of a call to a guest."""
 
-    address: int
-    page: int
+    STEPPED = auto()
+    REFILLED = auto()
+    ACKNOWLEDGED = auto()
+    BEGUN = auto()
+    FINISHED = auto()
+    WAITS = auto()
+    HALTED = auto()  # the virtual processor
+    ENDED = auto()  # the guest
+    SKIPPED = auto()
+    BUSY = auto()
+    DELIVERED = auto()
+    NONE_IN_HAND = auto()
+    NOT_ARMED = auto()
+
+
+class PutOff(StepPutOff):
+    """What was done in the place of a step."""
+
+    def __init__(self, answer: Answer) -> None:
+        super().__init__(answer)
+        self.answer = answer
+
+
+@dataclass
+class Seat:
+    """A processor of the machine, the virtual processor that is loaded on it, its TLB, and what it has still to ask for."""
+
+    processor: int
+    node: int
+    loaded: int
+    tlb: HardwareTlb = field(default_factory=HardwareTlb)
+    due: PageMove | None = None
+    data: Half | None = None  # of the data access at hand
 
 
 class Host(Watcher):
-    """Its TLB, what its data accesses are to the policy, and what becomes due by them.
+    """The processors on which a guest is loaded, and its pages. A step is put off by each refill and each change of a move before it."""
 
-    No other processor has halves of the guest's pages. So a move of a page is done as soon as the host has dropped its own halves.
-    """
-
-    def __init__(self, node: int, pages: Pages, policy: Policy) -> None:
-        self.node = node
+    def __init__(
+        self, number: int, machine: Machine, pages: Pages, policy: Policy, blocks: Mapping[int, Frame], hands_on: bool
+    ) -> None:
+        self.number = number  # of the guest
+        self.machine = machine
         self.pages = pages
         self.policy = policy
-        self.tlb = HardwareTlb()
-        self.fetch = Access(0, 0)
-        self.due: PageMove | None = None
+        self.blocks = blocks  # of the guest's disk that its home cell keeps
+        self.hands_on = hands_on  # whole pages; else each packet is copied
+        self.seats: dict[int, Seat] = {}  # by the processor's number
+        self.seat: Seat | None = None  # whose step is made
         self.refills = 0
+        self.sends_without_frame = 0  # of pages that could have been handed on
         self.accesses = 0
         self.misses = 0
 
-    # the TLB
+    # processors
+
+    def load(self, processor: int, virtual: int) -> Seat:
+        """A processor begins with an empty TLB."""
+        self.seats[processor] = Seat(processor, self.machine.processors[processor], virtual)
+        return self.seats[processor]
+
+    def unload(self, seat: Seat) -> None:
+        """What is due lapses."""
+        for number in range(len(self.pages.pages)):
+            self.pages.leave(number, seat.processor)
+        del self.seats[seat.processor]
+
+    # what a step reaches
 
     def fetched(self, processor: VirtualProcessor, address: int, place: int) -> None:
-        self.fetch = Access(address, place >> 12)
-        self.use(processor, [self.fetch])
+        self.reach(processor, address, place >> 12, is_store=False)
 
     def accessed(self, processor: VirtualProcessor, address: int, place: int, use: Use) -> None:
-        """The instruction is begun anew after a refill, so its own page has to be there still; and after a move too."""
-        accesses = [self.fetch, Access(address, place >> 12)]
-        self.use(processor, accesses)
-        if use is Use.STORE and self.has_collapsed(place >> 12):
-            self.use(processor, accesses)
+        self.seat.data = self.reach(processor, address, place >> 12, use is Use.STORE)
+
+    def reach(self, processor: VirtualProcessor, address: int, page: int, is_store: bool) -> Half:
+        """The half by which an access goes that the guest allows."""
+        half = self.seat.tlb.find(address >> 12, processor.coprocessor.asid)
+        if half is None:
+            self.pass_move(page)
+            self.refill(processor, address, page)
+            raise PutOff(Answer.REFILLED)
+        assert half.page == page
+        if is_store and not half.is_writable:
+            self.pass_move(page)
+            self.begin_needed(page)
+            raise PutOff(Answer.BEGUN)
+        return half
+
+    def begin_needed(self, number: int) -> None:
+        """The move without which the page's bytes may not change."""
+        need = self.pages[number].need()
+        assert need is not None
+        self.begin(number, need)
+
+    def pass_move(self, number: int) -> None:
+        """An access waits for the page's move, or ends it where it waits for another operation than this one."""
+        if self.pages[number].move is not None:
+            raise PutOff(self.finish_ready(number))
+
+    def refill(self, processor: VirtualProcessor, address: int, number: int) -> None:
+        self.refills += 1
+        page = self.pages[number]
+        page.mapped.add(self.seat.processor)
+        is_global = is_alike_in_all_spaces(processor, address)
+        is_writable = page.is_writable() and is_granted_to_stores(processor, address)
+        frame = page.nearest(self.seat.node)
+        self.seat.tlb.fill(address >> 12, processor.coprocessor.asid, is_global, number, frame, is_writable)
 
     def tlb_written(self, processor: VirtualProcessor, old: Entry, new: Entry) -> None:
         for entry in (old, new):
-            self.tlb.drop_pair(entry.hi >> 13)
-
-    def use(self, processor: VirtualProcessor, accesses: Sequence[Access]) -> None:
-        """Refills until each of these accesses has its half at the same time."""
-        asid = processor.coprocessor.asid
-        while (missing := self.first_missing(accesses, asid)) is not None:
-            self.refills += 1
-            self.tlb.fill(missing.address >> 12, asid, is_alike_in_all_spaces(processor, missing.address), missing.page)
-
-    def first_missing(self, accesses: Iterable[Access], asid: int) -> Access | None:
-        for access in accesses:
-            if not self.tlb.has(access.address >> 12, asid):
-                return access
-        return None
-
-    # moves of pages
+            self.seat.tlb.drop_pair(entry.hi >> 13)
 
     def loaded(self, place: int) -> None:
         self.note(place >> 12, is_store=False)
 
     def stored(self, place: int) -> None:
+        assert self.seat.data.is_writable
         self.note(place >> 12, is_store=True)
 
     def note(self, number: int, is_store: bool) -> None:
         """What the policy chooses after a miss is due from now on, unless the page is to stay."""
+        seat = self.seat
+        assert seat.data.page == number
         self.accesses += 1
-        if self.pages[number].note(self.node, is_store):
+        is_miss = seat.data.frame.node != seat.node
+        self.pages[number].note(seat.node, is_miss, is_store)
+        if is_miss:
             self.misses += 1
-            self.due = self.policy.choice(number, self.pages[number], self.node) or self.due
+            seat.due = self.policy.choice(number, self.pages[number], seat.node) or seat.due
 
-    def ask_for_due(self) -> None:
-        if self.due is not None:
-            due, self.due = self.due, None
-            self.move(due)
+    # what a step brings and sends
 
-    def block_comes(self, processor: VirtualProcessor, page: int) -> None:
-        if self.has_collapsed(page):
-            self.use(processor, [self.fetch])
+    def block_comes(self, processor: VirtualProcessor, page: int, block: int, is_own: bool) -> None:
+        """A block that the guest has written is copied, and so is one that the home cell doesn't keep."""
+        frame = None if is_own else self.blocks.get(block)
+        answer = self.make_way(page, frame, None if is_own else BlockRead(processor.number, block))
+        if answer is not None:
+            raise PutOff(answer)
 
-    def packet_comes(self, page: int) -> None:
-        self.has_collapsed(page)
+    def make_way(self, number: int, frame: Frame | None, operation: Operation | None) -> Answer | None:
+        """What comes before a page's bytes are replaced, by sharing a frame or by copying; nothing where they may be now."""
+        page = self.pages[number]
+        if page.move is not None:
+            return self.pass_or_take(number, page.move, operation)
+        if frame is not None and self.pages.holder.share(frame):
+            self.begin(number, Kind.TAKE_SHARED, frame, operation)
+            return Answer.BEGUN
+        if page.is_writable():
+            return None
+        self.begin_needed(number)
+        return Answer.BEGUN
 
-    def has_collapsed(self, page: int) -> bool:
-        """Whether the page had to lose its replicas before its bytes change."""
-        return bool(self.pages[page].replicas) and self.move(Collapse(page))
+    def pass_or_take(self, number: int, move: OpenMove, operation: Operation | None) -> Answer | None:
+        """An operation ends its own move, and shares the frame."""
+        if not move.is_for(operation):
+            return self.finish_ready(number)
+        self.pages.take(number)
+        self.clear_dues(number)
+        return None
 
-    def move(self, move: PageMove) -> bool:
-        """Whether it begins."""
-        begins = self.pages.move(move)
-        if begins:
-            self.tlb.drop_page(move.page)
-        return begins
+    def block_goes(self, processor: VirtualProcessor, page: int) -> None:
+        self.pass_move(page)
 
-    def unload(self) -> None:
-        """The TLB is emptied, and what is due lapses."""
-        self.tlb.empty()
-        self.due = None
+    def page_goes(self, processor: VirtualProcessor, page: int, length: int, receiver: int) -> Frame | None:
+        """A page of the guest's own becomes shared first, where a frame is found that is spare then. Else it is copied."""
+        self.pass_move(page)
+        if length < PAGE or not self.hands_on or not self.may_hand_on(page, receiver):
+            return None
+        if self.pages[page].is_shared:
+            return self.pages[page].master
+        target = self.pages.holder.find(self.machine.boot_order(self.machine.homes[self.number]))
+        if target is None:
+            self.sends_without_frame += 1
+            return None
+        self.begin(page, Kind.GIVE_SHARED, target)
+        raise PutOff(Answer.BEGUN)
+
+    def may_hand_on(self, page: int, receiver: int) -> bool:
+        """Whether the receiver is another guest that is there, on whose home cell the page's frame lies."""
+        if receiver == self.number or receiver >= len(self.machine.homes):
+            return False
+        return self.machine.cell_of(self.pages[page].master.node) == self.machine.home_cell(receiver)
+
+    # moves of pages
+
+    def ask(self, move: PageMove) -> Answer:
+        """The plan or the policy asks for a move."""
+        if self.pages.has_ended():
+            return self.skip(move.page, Cause.ENDED)
+        page = self.pages[move.page]
+        if page.move is not None:
+            return Answer.BUSY
+        cause = page.cause_against(move)
+        if cause is not None:
+            return self.skip(move.page, cause)
+        target = self.pages.target_of(move)
+        if target is None and not isinstance(move, Collapse):
+            return self.skip(move.page, Cause.NO_FRAME)
+        self.begin(move.page, move.kind, target)
+        return Answer.BEGUN
+
+    def skip(self, number: int, cause: Cause) -> Answer:
+        self.pages.skip(number, cause)
+        self.clear_dues(number)
+        return Answer.SKIPPED
+
+    def begin(self, number: int, kind: Kind, target: Frame | None = None, operation: Operation | None = None) -> None:
+        self.pages.begin(number, kind, target, operation)
+        self.clear_dues(number)
+
+    def finish_ready(self, number: int) -> Answer:
+        """The page's move ends, unless it waits for a processor."""
+        if self.pages[number].move.waiting:
+            return Answer.WAITS
+        self.pages.finish(number)
+        self.clear_dues(number)
+        return Answer.FINISHED
+
+    def errand(self, seat: Seat) -> Answer | None:
+        """What a processor does for moves before its step."""
+        waiting = self.pages.first_waiting(seat.processor)
+        if waiting is not None:
+            seat.tlb.drop_page(waiting)
+            self.pages.leave(waiting, seat.processor)
+            return Answer.ACKNOWLEDGED
+        ready = self.pages.first_ready()
+        return None if ready is None else self.finish_ready(ready)
+
+    def clear_dues(self, number: int) -> None:
+        for seat in self.seats.values():
+            if seat.due is not None and seat.due.page == number:
+                seat.due = None
+
+    def finish_all_ready(self) -> None:
+        """At the end of the plan, in order of page."""
+        for number in sorted(self.pages.moving):
+            self.finish_ready(number)
+
+    def end(self) -> None:
+        """What is due of a page that moves lapses."""
+        for number in self.pages.moving:
+            self.clear_dues(number)
+        self.pages.end()
 
 
 def is_alike_in_all_spaces(processor: VirtualProcessor, address: int) -> bool:
@@ -117,3 +271,11 @@ def is_alike_in_all_spaces(processor: VirtualProcessor, address: int) -> bool:
         return True
     index = processor.tlb.find(address, processor.coprocessor.asid)
     return index is not None and processor.tlb.entries[index].is_global and processor.tlb.is_alone(address)
+
+
+def is_granted_to_stores(processor: VirtualProcessor, address: int) -> bool:
+    """Whether the guest allows a store at an address that it allows to be read."""
+    if is_direct(address):
+        return True
+    index = processor.tlb.find(address, processor.coprocessor.asid)
+    return processor.tlb.entries[index].lo_of(address) & DIRTY != 0

@@ -5,8 +5,9 @@ from __future__ import annotations
 from collections import Counter
 from dataclasses import dataclass
 
-from .devices import PAGE, Devices, Input
+from .devices import PAGE, Devices, DiskFile, Input
 from .exceptions import Code, GuestException, coprocessor_unusable
+from .frames import Frame
 from .instructions import Decoded
 from .opcode_maps import decode
 from .processor import VirtualProcessor
@@ -23,12 +24,16 @@ class Start:
     entry: int
     pages: int
     processors: int
-    disk: bytes | None = None
+    disk: DiskFile | None = None
     inputs: tuple[Input, ...] = ()
 
 
+class StepPutOff(Exception):
+    """A watcher has done something in the place of a step, of which nothing was done. It is begun anew later."""
+
+
 class Watcher:
-    """Who is told of what the guest doesn't see itself. This one does nothing."""
+    """Who is told of what the guest doesn't see itself, and may put the step off. This one does nothing."""
 
     def fetched(self, processor: VirtualProcessor, address: int, place: int) -> None:
         """The virtual processor may fetch at this address, and this place of memory is there."""
@@ -42,11 +47,15 @@ class Watcher:
     def stored(self, place: int) -> None:
         """An instruction stores to this place."""
 
-    def block_comes(self, processor: VirtualProcessor, page: int) -> None:
-        """The instruction of the virtual processor is about to read a block into this page."""
+    def block_comes(self, processor: VirtualProcessor, page: int, block: int, is_own: bool) -> None:
+        """The instruction of the virtual processor is about to read a block into this page, which the guest has written or not."""
 
-    def packet_comes(self, page: int) -> None:
-        """A packet is about to come into this page."""
+    def block_goes(self, processor: VirtualProcessor, page: int) -> None:
+        """It is about to write a block from this page."""
+
+    def page_goes(self, processor: VirtualProcessor, page: int, length: int, receiver: int) -> Frame | None:
+        """It is about to send so much of this page to a guest of that number. The frame with which all of it can be handed on."""
+        return None
 
     def tlb_written(self, processor: VirtualProcessor, old: Entry, new: Entry) -> None:
         """An entry of its TLB is replaced."""
@@ -110,12 +119,14 @@ class Guest:
         processor = self.processors[number]
         if processor.halted:
             return
-        if number == 0:
-            self.devices.join_input(processor.steps)
+        joined = self.devices.join_input(processor.steps) if number == 0 else []
         try:
             if processor.coprocessor.interrupt_comes():
                 raise GuestException(Code.INT)
             self.execute(processor, decode(processor.fetch()))
+        except StepPutOff:
+            self.devices.take_back(joined)
+            raise
         except GuestException as raised:
             self.coverage.exceptions[raised.code] += 1
             processor.pc = processor.coprocessor.enter(raised, processor.pc, processor.slot is not None)
@@ -128,5 +139,9 @@ class Guest:
         if word.needs_kernel and processor.coprocessor.in_user_mode():
             raise coprocessor_unusable(0)
         self.coverage.instructions[word.name] += 1
-        after = word.execute(processor, word)
+        try:
+            after = word.execute(processor, word)
+        except StepPutOff:
+            self.coverage.instructions[word.name] -= 1
+            raise
         processor.pc, processor.slot = processor.following() if after is None else after

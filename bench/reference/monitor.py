@@ -1,66 +1,33 @@
 """Runs of several guests, each alone or under the monitor, and their reports.
 
-Under the monitor a guest's console is the same, and two things come on top. The processor on which a virtual processor is loaded has a TLB
-of its own, which the monitor fills as pages are used, and the report counts these refills. And what guests send to each other arrives.
-Pages move as the plan and the policy ask and as stores need it, of which a guest sees nothing. No page is shared here: nothing is kept of
-disks, and each packet is copied.
+Under the monitor a guest's console is the same, and some things come on top. The processor on which a virtual processor is loaded has a TLB
+of its own, which the monitor fills as pages are used, and the report counts these refills. Pages move as the plan and the policy ask and as
+steps need it, and come to lie on frames that others hold too, of which a guest sees nothing. And what guests send to each other arrives.
 """
 
 from __future__ import annotations
 
-from collections import deque
-from collections.abc import Iterable, Sequence
-from dataclasses import dataclass
+from collections.abc import Callable, Iterable, Iterator, Sequence
+from random import Random
 
-from .devices import Packet
-from .frames import Frames, Machine
-from .host import Host
+from .cache import Cache, blocks_at_home, disk_numbers
+from .frames import AdmissionFault, Frames, Holder, Machine
+from .host import Answer, Host, Seat
 from .machine import Coverage, Guest, Start, Watcher
-from .moves import Pages, Policy
+from .monitored import Monitored
+from .moves import Policy
 from .openness import Openness, openness
-from .plan import Ask, Item, Run
+from .pages import Pages
+from .plan import Ask, Item, Run, processor_of
+from .wires import Wires
 
-WIRE_PACKETS = 64
+MOST_TURNS = 100  # without a step, where nobody else takes any
 
-
-@dataclass
-class Monitored:
-    """A guest under the monitor."""
-
-    guest: Guest
-    host: Host
-    last_sender: int  # whose packet was taken last
-    steps: int = 0
-    received: int = 0
-    was_armed: bool = False
-    has_foreign_packets: bool = False  # from a guest of another processor
+Watch = Callable[[Monitored, Seat, Answer], None]
 
 
-class Wires:
-    """A queue of packets from each guest to each other one. A packet for which there is no room is lost."""
-
-    def __init__(self, guests: int) -> None:
-        self.queues = {
-            (sender, receiver): deque[bytes]() for sender in range(guests) for receiver in range(guests) if sender != receiver
-        }
-        self.guests = guests
-
-    def put(self, sender: int, receiver: int, data: bytes) -> None:
-        queue = self.queues.get((sender, receiver))
-        if queue is not None and len(queue) < WIRE_PACKETS:
-            queue.append(data)
-
-    def take(self, receiver: int, last_sender: int) -> tuple[int, bytes] | None:
-        """The next packet to a guest. The wires are asked in order of sender, beginning after the last one taken from."""
-        for step in range(1, self.guests + 1):
-            sender = (last_sender + step) % self.guests
-            queue = self.queues.get((sender, receiver))
-            if queue:
-                return sender, queue.popleft()
-        return None
-
-    def has_packet(self, receiver: int) -> bool:
-        return any(queue for (_, to), queue in self.queues.items() if to == receiver)
+class NeverGoesOn(Exception):
+    """A virtual processor takes turn after turn and makes no step."""
 
 
 class Monitor:
@@ -70,73 +37,110 @@ class Monitor:
     see nothing of each other but packets, and when these arrive is open.
     """
 
-    def __init__(self, starts: Sequence[Start], hosts: Sequence[int], machine: Machine, policy: Policy) -> None:
+    def __init__(
+        self, starts: Sequence[Start], hosts: Sequence[int], machine: Machine, policy: Policy, hands_on: bool = True
+    ) -> None:
+        """Whole pages that are sent are handed on where they can be, or each packet is copied."""
+        self.starts = starts
         self.machine = machine
         self.policy = policy
         self.hosts = hosts
-        self.pages = sum(start.pages for start in starts)
-        frames = Frames(machine)
-        self.guests: list[Monitored] = []
-        for number, start in enumerate(starts):
-            pages = Pages(frames, machine.boot_order(machine.homes[number]), start.pages)
-            host = Host(machine.processors[hosts[number]], pages, policy)
-            self.guests.append(Monitored(Guest(start, host), host, last_sender=number))
+        self.hands_on = hands_on
+        self.frames = Frames(machine)
         self.wires = Wires(len(starts))
+        self.caches = [Cache(self.frames, cell) for cell in range(len(machine.cells))]
+        numbers = disk_numbers(starts)
+        for cache in self.caches:
+            at_home = [start for number, start in enumerate(starts) if machine.home_cell(number) == cache.cell]
+            cache.keep(blocks_at_home(at_home, numbers))
+        self.guests = [self.booted(number, start, numbers) for number, start in enumerate(starts)]
         self.is_open = False  # whether another run of the same plan may print something else
         self.openness: list[Openness] = []  # of the sums
+        self.watch: Watch = lambda monitored, seat, answer: None  # is told of each turn
+
+    def booted(self, number: int, start: Start, disks: dict[str, int]) -> Monitored:
+        """A guest with its frames, in the order of the guests."""
+        machine = self.machine
+        holder = Holder(self.frames, machine.home_cell(number))
+        if holder.room() < start.pages:
+            raise AdmissionFault(f"guest {number}", start.pages, holder.room())
+        pages = Pages(holder, machine.boot_order(machine.homes[number]), start.pages)
+        disk = None if start.disk is None else disks[start.disk.name]
+        host = Host(number, machine, pages, self.policy, self.caches[holder.home].blocks(disk), self.hands_on)
+        return Monitored(number, start, host, self.wires)
+
+    # a plan
 
     def carry_out(self, plan: Sequence[Item]) -> None:
-        self.openness = openness(self.machine, self.policy, plan, self.hosts, self.pages)
+        self.openness = openness(self.machine, self.policy, plan, self.hosts, self.starts)
         for item in plan:
-            if isinstance(item, Ask):
-                self.guests[item.guest].host.move(item.move)
-            else:
-                self.run(item)
-        for number in range(len(self.guests)):
-            self.take_packet(number)
-        self.is_open |= any(monitored.was_armed and monitored.has_foreign_packets for monitored in self.guests)
+            for answer in self.item(item):
+                if answer is Answer.WAITS:
+                    raise NeverGoesOn(f"{item} waits for a processor that does nothing")
+        self.close()
+        self.is_open = any(monitored.was_armed and self.has_foreign_packets(monitored.number) for monitored in self.guests)
 
-    def run(self, item: Run) -> None:
-        """Loading begins with an empty TLB. Before each step what is due is asked for, and then a packet may come."""
+    def has_foreign_packets(self, receiver: int) -> bool:
+        """Whether a guest of another processor has sent it something."""
+        senders = [monitored for monitored in self.guests if self.hosts[monitored.number] != self.hosts[receiver]]
+        return any(packet.receiver == receiver for monitored in senders for packet in monitored.guest.devices.sent)
+
+    def carry_out_mixed(self, plan: Sequence[Item], random: Random) -> None:
+        """Each processor has its items in order, and each turn is one of any processor that has some left."""
+        self.is_open = True
+        work = {processor: self.items(processor, plan) for processor in range(len(self.machine.processors))}
+        while work:
+            processor = random.choice(list(work))
+            if next(work[processor], None) is None:
+                del work[processor]
+        self.close()
+
+    def items(self, processor: int, plan: Iterable[Item]) -> Iterator[Answer]:
+        for item in plan:
+            if processor_of(item, self.hosts) == processor:
+                yield from self.item(item)
+
+    def item(self, item: Item) -> Iterator[Answer]:
+        """An item turn by turn."""
+        return self.ask(item) if isinstance(item, Ask) else self.run(item)
+
+    def run(self, item: Run) -> Iterator[Answer]:
         monitored = self.guests[item.guest]
-        processor = monitored.guest.processors[item.processor]
-        for _ in range(item.steps):
-            monitored.host.ask_for_due()
-            if processor.halted:
-                self.look_for_late_packet(item.guest)
-                break
-            self.take_packet(item.guest)
-            sent = len(monitored.guest.devices.sent)
-            monitored.guest.step(item.processor)
-            monitored.steps += 1
-            monitored.was_armed |= monitored.guest.devices.armed is not None
-            for packet in monitored.guest.devices.sent[sent:]:
-                self.put_packet(item.guest, packet)
-            if monitored.guest.has_halted():
-                monitored.host.pages.end()
-        monitored.host.unload()
-
-    def put_packet(self, sender: int, packet: Packet) -> None:
-        self.wires.put(sender, packet.receiver, packet.data)
-        if packet.receiver < len(self.guests) and self.hosts[packet.receiver] != self.hosts[sender]:
-            self.guests[packet.receiver].has_foreign_packets = True
-
-    def take_packet(self, number: int) -> None:
-        """A packet comes in where the guest has armed a page and hasn't ended."""
-        monitored = self.guests[number]
-        if monitored.guest.devices.armed is None or monitored.guest.has_halted():
+        while monitored.is_loaded(item.processor) and not monitored.has_ended:
+            yield Answer.WAITS
+        if monitored.has_ended:
             return
-        packet = self.wires.take(number, monitored.last_sender)
-        if packet is not None:
-            monitored.last_sender = packet[0]
-            monitored.received += 1
-            monitored.guest.devices.receive(*packet)
+        seat = monitored.host.load(processor_of(item, self.hosts), item.processor)
+        steps, idle = 0, 0
+        while steps < item.steps:
+            answer = monitored.turn(seat)
+            self.watch(monitored, seat, answer)
+            yield answer
+            if answer in (Answer.HALTED, Answer.ENDED):
+                break
+            steps, idle = (steps + 1, 0) if answer is Answer.STEPPED else (steps, idle + 1)
+            if idle > MOST_TURNS and len(monitored.host.seats) == 1:
+                raise NeverGoesOn(f"{item} at {monitored.guest.processors[item.processor].pc:08X}")
+        monitored.host.unload(seat)
 
-    def look_for_late_packet(self, number: int) -> None:
-        """Whether a packet comes in when a virtual processor is found halted is open."""
-        guest = self.guests[number].guest
-        if guest.devices.armed is not None and not guest.has_halted() and self.wires.has_packet(number):
-            self.is_open = True
+    def ask(self, item: Ask) -> Iterator[Answer]:
+        """Asks until the move begins or is skipped, and waits for its end."""
+        host, page = self.guests[item.guest].host, item.move.page
+        while (answer := host.ask(item.move)) is Answer.BUSY:
+            yield host.finish_ready(page)
+        move = None if answer is Answer.SKIPPED else host.pages[page].move
+        while move is not None and not host.pages.has_ended() and host.pages[page].move is move:
+            yield host.finish_ready(page)
+
+    def close(self) -> None:
+        """The plan is done: who waits for a packet takes it, and then all guests end."""
+        for monitored in self.guests:
+            monitored.take_last_packet()
+        for monitored in self.guests:
+            if not monitored.has_ended:
+                monitored.end_by_budget()
+
+    # reports
 
     def packets_arrived(self) -> bool:
         return any(monitored.received for monitored in self.guests)
@@ -146,13 +150,7 @@ class Monitor:
         return b"".join(report_of(number, monitored.guest) for number, monitored in enumerate(self.guests))
 
     def report(self) -> bytes:
-        return b"".join(
-            report_of(number, monitored.guest)
-            + f"sums steps {monitored.steps} refills {monitored.host.refills} moves {monitored.host.pages.moves} ".encode()
-            + f"skips {monitored.host.pages.skips} breaks 0 shared 0 ".encode()
-            + f"received {monitored.received} discarded 0\n".encode()
-            for number, monitored in enumerate(self.guests)
-        )
+        return b"".join(report_of(number, monitored.guest) + sums_of(monitored) for number, monitored in enumerate(self.guests))
 
     def coverage(self) -> Coverage:
         total = Coverage.none()
@@ -166,6 +164,14 @@ def report_of(number: int, guest: Guest) -> bytes:
     console = guest.devices.console
     end = "halted" if guest.has_halted() else "budget"
     return f"guest {number} console {len(console)}\n".encode() + console + f"\nend {end}\n".encode()
+
+
+def sums_of(monitored: Monitored) -> bytes:
+    host, pages = monitored.host, monitored.host.pages
+    return (
+        f"sums steps {monitored.steps} refills {host.refills} moves {pages.moves} skips {pages.skips} "
+        f"breaks {pages.breaks} shared {pages.shared} received {len(monitored.received)} discarded 0\n"
+    ).encode()
 
 
 def private_report(starts: Sequence[Start], plan: Iterable[Item]) -> bytes:

@@ -1,20 +1,31 @@
-"""Pages of a guest, how they move, and when the policy asks for that."""
+"""Moves of a guest's pages: those that are asked for, when the policy asks, and those that are open."""
 
 from __future__ import annotations
 
 from collections import Counter
-from collections.abc import Sequence
 from dataclasses import dataclass, field
+from enum import Enum
 from typing import ClassVar
 
-from .frames import Frames
+from .frames import Frame
+
+
+class Kind(Enum):
+    """What a move does to a page."""
+
+    MIGRATE = "migrate"
+    REPLICATE = "replicate"
+    COLLAPSE = "collapse"
+    BREAK = "break"
+    TAKE_SHARED = "take shared"
+    GIVE_SHARED = "give shared"
 
 
 @dataclass(frozen=True)
 class Migrate:
     """A page's frame is to lie on another node."""
 
-    kind: ClassVar[str] = "migrate"
+    kind: ClassVar[Kind] = Kind.MIGRATE
     page: int
     node: int
 
@@ -23,7 +34,7 @@ class Migrate:
 class Replicate:
     """A page is to have a frame for reading on one more node."""
 
-    kind: ClassVar[str] = "replicate"
+    kind: ClassVar[Kind] = Kind.REPLICATE
     page: int
     node: int
 
@@ -32,55 +43,103 @@ class Replicate:
 class Collapse:
     """A page is to have its master alone."""
 
-    kind: ClassVar[str] = "collapse"
+    kind: ClassVar[Kind] = Kind.COLLAPSE
     page: int
 
 
 PageMove = Migrate | Replicate | Collapse
 
 
+class Cause(Enum):
+    """Why a move that was asked for doesn't begin."""
+
+    ENDED = "the guest has ended"
+    SHARED = "the page is shared"
+    REPLICATED = "a page with replicas doesn't migrate"
+    SAME_NODE = "the page has a frame on the node"
+    NO_REPLICA = "there is no replica to let go"
+    NO_FRAME = "the node gives no frame"
+
+
+@dataclass(frozen=True)
+class BlockRead:
+    """A virtual processor's read of a block."""
+
+    processor: int
+    block: int
+
+
+@dataclass(frozen=True)
+class Delivery:
+    """The receipt of a packet, by how many came before."""
+
+    place: int
+
+
+Operation = BlockRead | Delivery
+
+
+@dataclass
+class OpenMove:
+    """A move that has begun: the processors that may still name the page, its frame, and what a shared frame is taken for."""
+
+    kind: Kind
+    waiting: set[int]
+    target: Frame | None = None
+    operation: Operation | None = None
+
+    def is_for(self, operation: Operation) -> bool:
+        """Whether this operation itself ends the move now."""
+        return self.kind is Kind.TAKE_SHARED and self.operation == operation and not self.waiting
+
+
 @dataclass
 class Page:
-    """On which nodes a page's frames lie, and what was noted of it since a move of it began last, or was skipped."""
+    """The frames behind a page, who may name it, its move, and what was noted of it since one began last, or was skipped."""
 
-    master: int
-    replicas: set[int] = field(default_factory=set)
+    master: Frame
+    is_shared: bool = False
+    replicas: list[Frame] = field(default_factory=list)
+    mapped: set[int] = field(default_factory=set)
+    move: OpenMove | None = None
     misses: Counter[int] = field(default_factory=Counter)  # of each node
     is_written: bool = False
 
-    def nearest(self, node: int) -> int:
-        """Where the frame lies by which a processor of this node reaches the page."""
-        return node if node in self.replicas else self.master
+    def nearest(self, node: int) -> Frame:
+        """The frame by which a processor of this node reaches the page."""
+        return next((frame for frame in (self.master, *self.replicas) if frame.node == node), self.master)
 
-    def note(self, node: int, is_store: bool) -> bool:
-        """Notes a data access by a processor of this node. Whether it is a miss."""
+    def is_writable(self) -> bool:
+        return not self.is_shared and not self.replicas
+
+    def need(self) -> Kind | None:
+        """The move that comes before the page's bytes may change."""
+        if self.is_shared:
+            return Kind.BREAK
+        return Kind.COLLAPSE if self.replicas else None
+
+    def note(self, node: int, is_miss: bool, is_store: bool) -> None:
+        """Notes a data access by a processor of this node."""
         self.is_written |= is_store
-        is_miss = self.nearest(node) != node
         self.misses[node] += is_miss
-        return is_miss
 
     def note_anew(self) -> None:
         self.misses.clear()
         self.is_written = False
 
-    def move(self, move: PageMove, frames: Frames) -> bool:
-        """Whether it begins. Then it is done, and the frames are given back that it frees."""
+    def cause_against(self, move: PageMove) -> Cause | None:
+        """Why this move can't begin, want of a frame aside."""
+        if self.is_shared:
+            return Cause.SHARED
         match move:
             case Migrate(node=node):
-                if self.replicas or self.master == node or not frames.take(node):
-                    return False
-                frames.give_back([self.master])
-                self.master = node
+                if self.replicas:
+                    return Cause.REPLICATED
+                return Cause.SAME_NODE if self.master.node == node else None
             case Replicate(node=node):
-                if self.nearest(node) == node or not frames.take(node):
-                    return False
-                self.replicas.add(node)
+                return Cause.SAME_NODE if self.nearest(node).node == node else None
             case Collapse():
-                if not self.replicas:
-                    return False
-                frames.give_back(self.replicas)
-                self.replicas.clear()
-        return True
+                return None if self.replicas else Cause.NO_REPLICA
 
 
 @dataclass(frozen=True)
@@ -101,32 +160,3 @@ class Policy:
         if 0 < self.replicate <= misses and not page.is_written:
             return Replicate(number, node)
         return None
-
-
-class Pages:
-    """All pages of a guest, and how many moves of them began, and how many were skipped."""
-
-    def __init__(self, frames: Frames, order: Sequence[int], count: int) -> None:
-        """Each page gets the next frame that the nodes have in this order."""
-        self.frames = frames
-        self.pages = [Page(frames.take_first(order)) for _ in range(count)]
-        self.moves = 0
-        self.skips = 0
-
-    def __getitem__(self, number: int) -> Page:
-        return self.pages[number]
-
-    def move(self, move: PageMove) -> bool:
-        """Whether it begins. None does once the guest has ended."""
-        begins = bool(self.pages) and self.pages[move.page].move(move, self.frames)
-        if self.pages:
-            self.pages[move.page].note_anew()
-        self.moves += begins
-        self.skips += not begins
-        return begins
-
-    def end(self) -> None:
-        """The guest has ended, and gives all its frames back."""
-        for page in self.pages:
-            self.frames.give_back([page.master, *page.replicas])
-        self.pages = []

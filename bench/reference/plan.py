@@ -9,11 +9,12 @@ from .moves import PageMove
 
 @dataclass(frozen=True)
 class Run:
-    """A virtual processor makes so many steps, unless it halts before."""
+    """A virtual processor makes so many steps, unless it halts before, on a processor of the machine: the guest's own if none is named."""
 
     guest: int
     processor: int
     steps: int
+    host: int | None = None
 
 
 @dataclass(frozen=True)
@@ -26,3 +27,10 @@ class Ask:
 
 
 Item = Run | Ask
+
+
+def processor_of(item: Item, hosts: list[int]) -> int:
+    """The processor of the machine that carries an item out."""
+    if isinstance(item, Ask):
+        return item.asker
+    return hosts[item.guest] if item.host is None else item.host
