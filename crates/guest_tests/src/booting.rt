@@ -211,7 +211,7 @@ fn first_two<A: Drop, B: Drop>(some: Vec<A>, others: Vec<B>) -> Option<((A, B), 
 
 /// A guest at its start, with the token of its processor and its size.
 #[derive(Drop)]
-struct Ready {
+struct ReadyGuest {
     guest: Guest,
     token: ProcToken,
     size: Size,
@@ -222,8 +222,8 @@ struct Ready {
 struct TwoReady {
     table: FrameTable,
     wires: Wires,
-    first: Ready,
-    second: Ready,
+    first: ReadyGuest,
+    second: ReadyGuest,
 }
 
 /// Boots the guests of a description.
@@ -262,12 +262,12 @@ fn two_of(machine: &Machine, booted: Booted, one: Size, other: Size) -> Option<T
     Some(TwoReady {
         table,
         wires,
-        first: Ready {
+        first: ReadyGuest {
             guest: first.0,
             token: first.1,
             size: one,
         },
-        second: Ready {
+        second: ReadyGuest {
             guest: second.0,
             token: second.1,
             size: other,
