@@ -7,9 +7,9 @@ DISCO is the built program. Run number n of RUNS (100 if none is given) is that 
 can be repeated alone. A run is a machine with one to eight guests, their disks, their input and a plan. The guests do all that a guest can
 do: instructions on values near an edge, accesses to everywhere, exceptions, their own TLB, user code, interrupts, disk commands, packets;
 and the plan and mostly a policy move their pages from node to node and replicate them.
-With a PROBABILITY above 0 so many of the runs, from none (0) to each (1), are of guests that read the same few blocks and send each other
-whole pages on a machine whose cells keep a few blocks and have few frames left; and in each run whole pages are handed on. Without it no
-cell keeps a block and each packet is copied, which is what a program does that doesn't share.
+In each run whole pages are handed on. So many of the runs as the PROBABILITY says, from none (0) to each (1), half of them if none is
+given, are of guests that read the same few blocks and send each other whole pages on a machine whose cells keep a few blocks and have few
+frames left. In the others no cell keeps a block.
 Each run is made by `disco --private` and by `disco --machine`, and each report is compared byte by byte: consoles, ends, and under
 `--machine` the steps, the refills, the moves, the skips, the breaks, what was shared and the packets received. Where a plan leaves it open
 when a packet arrives the latter isn't compared. Where it leaves open which of a guest's moves begin, only how many were asked for; where that
@@ -163,7 +163,7 @@ def differences(disco: pathlib.Path, folder: pathlib.Path, made: Scenario, monit
 def compare(disco: pathlib.Path, seed: int, sharing: float, totals: Totals) -> bool:
     """Whether the reports of a seed's run are equal. The folder of one that isn't is kept."""
     made = scenario(seed, sharing)
-    monitor = Monitor(made.starts, made.hosts, made.machine(), made.policy, hands_on=sharing > 0)
+    monitor = Monitor(made.starts, made.hosts, made.machine(), made.policy)
     try:
         monitor.carry_out(made.plan)
     except NeverGoesOn as told:
@@ -204,7 +204,7 @@ def main() -> int:
     parser.add_argument("disco", type=built_program, help="the built program")
     parser.add_argument("runs", type=int, nargs="?", default=RUNS, help="how many runs (%(default)s)")
     parser.add_argument("seed", type=int, nargs="?", default=0, help="the seed of the first (%(default)s)")
-    parser.add_argument("--sharing", type=probability, default=0.0, metavar="PROBABILITY", help="how many of the runs share (none)")
+    parser.add_argument("--sharing", type=probability, default=0.5, metavar="PROBABILITY", help="how many of the runs share (0.5)")
     given = parser.parse_args()
     totals = Totals()
     seeds = range(given.seed, given.seed + given.runs)

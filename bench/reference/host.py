@@ -51,6 +51,7 @@ class Seat:
     loaded: int
     tlb: HardwareTlb = field(default_factory=HardwareTlb)
     due: PageMove | None = None
+    code: int | None = None  # the page of the instruction at hand
     data: Half | None = None  # of the data access at hand
 
 
@@ -90,6 +91,7 @@ class Host(Watcher):
 
     def fetched(self, processor: VirtualProcessor, address: int, place: int) -> None:
         self.reach(processor, address, place >> 12, is_store=False)
+        self.seat.code = place >> 12
 
     def accessed(self, processor: VirtualProcessor, address: int, place: int, use: Use) -> None:
         self.seat.data = self.reach(processor, address, place >> 12, use is Use.STORE)
@@ -153,9 +155,11 @@ class Host(Watcher):
     # what a step brings and sends
 
     def block_comes(self, processor: VirtualProcessor, page: int, block: int, is_own: bool) -> None:
-        """A block that the guest has written is copied, and so is one that the home cell doesn't keep."""
-        frame = None if is_own else self.blocks.get(block)
-        answer = self.make_way(page, frame, None if is_own else BlockRead(processor.number, block))
+        """A block that the guest has written is copied, and so is one that the home cell doesn't keep, or that comes into the
+        page of the read's own instruction, which could never be made while the page has a move."""
+        is_copied = is_own or page == self.seat.code
+        frame = None if is_copied else self.blocks.get(block)
+        answer = self.make_way(page, frame, None if is_copied else BlockRead(processor.number, block))
         if answer is not None:
             raise PutOff(answer)
 

@@ -4,10 +4,11 @@ use Rattle.machine_desc.specs.declared.machine.GuestSpec.{GuestSpec}
 use Rattle.machine_desc.specs.Described.{description_of}
 use Rattle.admission.specs.declared.faults.Fault.{Fault}
 use Rattle.admission.specs.declared.faults.Fault.TheVariants.{Read, Long}
-use Rattle.admission.specs.Words.{Form, Raw, Machine, Private, Litmus, Asm, AsmSteps, form_of}
+use Rattle.admission.specs.Words.{Form, Raw, Machine, Private, Make, Load, Litmus, Asm, AsmSteps, form_of}
 use Rattle.admission.specs.Chain.{Files, ◌>>=◌, known_form, fitting, content, of_description, longest_description, longest_litmus, longest_text, longest_image, longest_disk}
 use Rattle.admission.specs.Starts.{Start, guest_image, of_guest, image_at, disk_at, blocks_of, start_at, starts_from}
-use Rattle.admission.specs.Jobs.{Job, Litmus as LitmusJob, checked, guests_of, described_job, raw_checked, raw_job, litmus_job, asm_checked, asm_run_checked, job_by, job_of}
+use Rattle.guest_gen.specs.Made.{made_of}
+use Rattle.admission.specs.Jobs.{Job, Print, Litmus as LitmusJob, checked, guests_of, described_job, raw_checked, raw_job, load_job, litmus_job, asm_checked, asm_run_checked, job_by, job_of}
 use Rattle.admission.specs.Steady.{Extends, NeverReads, IsSteady}
 
 -- a stage that asks for no file
@@ -104,6 +105,8 @@ steady-form : (form : Form) → IsSteady (λ files. job_by files form)
 steady-form (Raw file steps) = steady-raw file steps
 steady-form (Machine file) = steady-described false file
 steady-form (Private file) = steady-described true file
+steady-form (Make seed) = steady-without (Ok (Print (made_of seed 4 50000)))
+steady-form (Load seed) = steady-without (load_job seed)
 steady-form (Litmus file) = steady-litmus file
 steady-form (Asm file) = steady-text file asm_checked
 steady-form (AsmSteps file steps) = steady-text file (asm_run_checked steps)

@@ -12,3 +12,6 @@ pub mod StartLemmas
 pub mod ReadyLemmas
 pub mod NoMemory
 pub mod KnownFiles
+pub mod MadeStarts
+pub mod MadeLaw
+pub mod MadeStage

@@ -19,13 +19,13 @@ use Rattle.machine_desc.specs.Described.{Described, description_of}
 use Rattle.admission.specs.declared.faults.Fault.{Fault}
 use Rattle.admission.specs.declared.faults.Fault.TheVariants.{Words, Read, Long, Asm as AsmFault, Description, BadImage, Unbuilt, CacheAdmission, Admission}
 use Rattle.unbuilt_keys.specs.declared.key.UnbuiltKey.{UnbuiltKey}
-use Rattle.admission.specs.Words.{Form, Raw, Machine, Private, Litmus, Asm, AsmSteps, form_of}
+use Rattle.admission.specs.Words.{Form, Raw, Machine, Private, Make, Load, Litmus, Asm, AsmSteps, form_of}
 use Rattle.boot_frames.specs.declared.answers.Shortage.{Shortage}
 use Rattle.boot_frames.specs.declared.answers.Shortage.TheVariants.{Memory, Cell, Guest}
 use Rattle.admission.specs.Chain.{Files, ◌>>=◌, known_form, fitting, content, of_description, of_text, assembled, longest_description, longest_litmus, longest_text, longest_image, longest_disk}
 use Rattle.admission.specs.Starts.{Start, unless, raw_image, elf_image, guest_image, of_guest, image_at, disk_at, start_at, starts_from}
 use Rattle.unbuilt_keys.specs.Unbuilt.{unbuilt}
-use Rattle.admission.specs.Jobs.{refused_key, short_in, served, checks, checked, described_job, raw_job, litmus_job, Job, Listing, asm_from, asm_checked, asm_run_checked, job_by, job_of}
+use Rattle.admission.specs.Jobs.{refused_key, short_in, served, checks, checked, described_from, described_job, raw_job, litmus_job, Job, Listing, asm_from, asm_checked, asm_run_checked, job_by, job_of}
 use Rattle.admission.specs.Texts.{Names, RefusesLine}
 use Rattle.admission.specs.Tells.{Tells, DescriptionsTell}
 
@@ -206,11 +206,13 @@ of_description-tells : (r : Result Described DescFault) → ((fault : DescFault)
 of_description-tells (Ok d) told = tt
 of_description-tells (Err fault) told = told fault refl
 
-described_job-tells : DescriptionsTell → (alone : Bool) (files : Files) (name : List ℕ) → AlwaysTells (described_job alone files name)
-described_job-tells tell alone files name =
-    then-tells (content files name longest_description) _ (content-tells files name longest_description) λ bytes.
+described_from-tells : DescriptionsTell → (alone : Bool) (files : Files) (bytes : List ℕ) → AlwaysTells (described_from alone files bytes)
+described_from-tells tell alone files bytes =
     then-tells (of_description (description_of bytes)) _ (of_description-tells (description_of bytes) (tell bytes)) λ d.
     then-tells (starts_from files 0 d.guests) _ (starts_from-tells files 0 d.guests) (checked-tells alone d)
+
+described_job-tells : DescriptionsTell → (alone : Bool) (files : Files) (name : List ℕ) → AlwaysTells (described_job alone files name)
+described_job-tells tell alone files name = then-tells (content files name longest_description) _ (content-tells files name longest_description) (described_from-tells tell alone files)
 
 raw_job-tells : (files : Files) (name : List ℕ) (steps : ℕ) → AlwaysTells (raw_job files name steps)
 raw_job-tells files name steps =
@@ -249,6 +251,8 @@ abbrev TellsBy : Files → Form → Result Job Fault → Type 0
 TellsBy files (Raw file steps) r = AlwaysTells r
 TellsBy files (Machine file) r = AlwaysTells r
 TellsBy files (Private file) r = AlwaysTells r
+TellsBy files (Make seed) r = AlwaysTells r
+TellsBy files (Load seed) r = AlwaysTells r
 TellsBy files (Litmus file) r = AlwaysTells r
 TellsBy files (Asm file) r = TellsText file (files file) r
 TellsBy files (AsmSteps file steps) r = TellsText file (files file) r
@@ -257,6 +261,8 @@ job_by-tells : DescriptionsTell → (files : Files) (form : Form) → TellsBy fi
 job_by-tells tell files (Raw file steps) = raw_job-tells files file steps
 job_by-tells tell files (Machine file) = described_job-tells tell false files file
 job_by-tells tell files (Private file) = described_job-tells tell true files file
+job_by-tells tell files (Make seed) = tt
+job_by-tells tell files (Load seed) = described_from-tells tell false _ _
 job_by-tells tell files (Litmus file) = litmus_job-tells files file
 job_by-tells tell files (Asm file) = text-tells file (λ assembly. Listing assembly) (files file)
 job_by-tells tell files (AsmSteps file steps) = text-tells file (asm_from steps) (files file)
@@ -276,6 +282,8 @@ told_of : (files : Files) (form : Form) (fault : Fault) → TellsBy files form (
 told_of files (Raw file steps) fault tells = tells_behind fault tells
 told_of files (Machine file) fault tells = tells_behind fault tells
 told_of files (Private file) fault tells = tells_behind fault tells
+told_of files (Make seed) fault tells = tells_behind fault tells
+told_of files (Load seed) fault tells = tells_behind fault tells
 told_of files (Litmus file) fault tells = tells_behind fault tells
 told_of files (Asm file) fault tells = text_told file (files file) fault tells
 told_of files (AsmSteps file steps) fault tells = text_told file (files file) fault tells
@@ -291,6 +299,8 @@ never_words : (files : Files) (form : Form) → TellsBy files form (Err Words) �
 never_words files (Raw file steps) tells = tells
 never_words files (Machine file) tells = tells
 never_words files (Private file) tells = tells
+never_words files (Make seed) tells = tells
+never_words files (Load seed) tells = tells
 never_words files (Litmus file) tells = tells
 never_words files (Asm file) tells = tells
 never_words files (AsmSteps file steps) tells = tells
@@ -309,6 +319,8 @@ lines_of : (words : List (List ℕ)) (files : Files) (form : Form) (line : ℕ) 
 lines_of words files (Raw file steps) line cause is tells = absurd tells
 lines_of words files (Machine file) line cause is tells = absurd tells
 lines_of words files (Private file) line cause is tells = absurd tells
+lines_of words files (Make seed) line cause is tells = absurd tells
+lines_of words files (Load seed) line cause is tells = absurd tells
 lines_of words files (Litmus file) line cause is tells = absurd tells
 lines_of words files (Asm file) line cause is tells =
     record { name = file; named = subst (Names file) (sym is) refl; text = tells.0; held = tells.1; short = tells.2; refused = tells.3 }
@@ -335,6 +347,8 @@ refused_by words files None line cause name text named held few refused = absurd
 refused_by words files (Some (Raw file steps)) line cause name text named held few refused = absurd named
 refused_by words files (Some (Machine file)) line cause name text named held few refused = absurd named
 refused_by words files (Some (Private file)) line cause name text named held few refused = absurd named
+refused_by words files (Some (Make seed)) line cause name text named held few refused = absurd named
+refused_by words files (Some (Load seed)) line cause name text named held few refused = absurd named
 refused_by words files (Some (Litmus file)) line cause name text named held few refused = absurd named
 refused_by words files (Some (Asm file)) line cause name text named held few refused =
     ap (λ (o : Option (List ℕ)). fitting file longest_text o >>= asm_checked) (ap files named ∙ held)

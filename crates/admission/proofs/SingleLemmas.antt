@@ -57,5 +57,4 @@ unfolding has
 single-served raw steps = refl
 
 pub single-built : (raw : Bool) (steps : ℕ) → unbuilt (single_described raw steps) ≡ None
-unfolding unbuilt
 single-built raw steps = refl

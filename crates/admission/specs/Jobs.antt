@@ -2,6 +2,10 @@
 use Rattle.std.specs.Prelude.{ℕ, List, [], ◌∷◌, map, length, Bool, true, false, codes, Option, Some, None, Result, Ok, Err}
 use Rattle.private_machine.specs.PrivateRun.{Image}
 use Rattle.guest_asm.specs.Assembly.{Assembly}
+use Rattle.outside_io.specs.declared.memory.HeldFile.{HeldFile}
+use Rattle.guest_gen.specs.declared.made.Made.{Made}
+use Rattle.guest_gen.specs.Description.{description_text}
+use Rattle.guest_gen.specs.Made.{files_of, made_of}
 use Rattle.elf_image.specs.Physical.{image_memory}
 use Rattle.node_frames.specs.Layout.{Layout}
 use Rattle.node_frames.specs.Left.{first_left}
@@ -16,9 +20,12 @@ use Rattle.machine_desc.specs.declared.plan.Item.TheVariants.{Run}
 use Rattle.machine_desc.specs.Described.{Described, description_of}
 use Rattle.admission.specs.declared.faults.Fault.{Fault}
 use Rattle.admission.specs.declared.faults.Fault.TheVariants.{Unbuilt, CacheAdmission, Admission}
-use Rattle.admission.specs.Words.{Form, Raw, Machine, Private, Litmus as LitmusForm, Asm, AsmSteps, form_of}
+use Rattle.admission.specs.Words.{Form, Raw, Machine, Private, Make, Load, Litmus as LitmusForm, Asm, AsmSteps, form_of}
 use Rattle.admission.specs.Chain.{Files, ◌>>=◌, known_form, content, of_description, assembled, longest_description, longest_litmus, longest_text, longest_image}
 use Rattle.admission.specs.Starts.{Start, raw_image, of_guest, starts_from}
+use Rattle.admission.specs.Generated.{generated}
+use Rattle.admission.specs.MadeRun.{made_starts}
+use Rattle.admission.specs.Stages.{known, look}
 use Rattle.unbuilt_keys.specs.declared.key.UnbuiltKey.{UnbuiltKey}
 use Rattle.unbuilt_keys.specs.Unbuilt.{unbuilt}
 
@@ -28,6 +35,8 @@ pub data Job : Type 0 where
   Monitored : Described → List Start → Bool → Job
   -- the same, each guest alone on its private machine
   Alone : Described → List Start → Job
+  -- what is made is printed
+  Print : Made → Job
   -- what a litmus file of these bytes asks for, or its refusal
   Litmus : List ℕ → Job
   -- what a text is assembled to is printed
@@ -69,10 +78,29 @@ checked alone d starts = checks d >>= λ _. Ok (job_from alone d starts)
 abbrev pub guests_of : Bool → Files → Described → Result Job Fault
 guests_of alone files d = starts_from files 0 d.guests >>= checked alone d
 
+-- a description's faults, and then its guests
+abbrev pub described_from : Bool → Files → List ℕ → Result Job Fault
+described_from alone files bytes = of_description (description_of bytes) >>= guests_of alone files
+
 -- the description's reading, its faults, and then its guests
 abbrev pub described_job : Bool → Files → List ℕ → Result Job Fault
-described_job alone files name =
-    content files name longest_description >>= λ bytes. of_description (description_of bytes) >>= guests_of alone files
+described_job alone files name = content files name longest_description >>= described_from alone files
+
+-- files that are at hand, and no others
+abbrev pub held_or_none : Option (Option (List ℕ)) → Option (List ℕ)
+held_or_none None = None
+held_or_none (Some held) = held
+
+abbrev pub at_hand : List HeldFile → Files
+at_hand files name = held_or_none (look (known files) name)
+
+-- what is made from a number for four guests of 50,000 steps a run, with its files at hand: its description's faults, and then its guests
+abbrev pub load_job : ℕ → Result Job Fault
+load_job seed = described_from false (at_hand (files_of seed 4)) (description_text 4 50000)
+
+-- the run of what is made
+abbrev pub made_run : ℕ → Job
+made_run seed = Monitored (generated 4 50000) (made_starts seed) true
 
 -- a guest of the command line has 16 pages and one virtual processor, on one node of 16 frames with one processor; its image is a raw
 -- file or an ELF file, whose name isn't kept
@@ -135,6 +163,8 @@ abbrev pub job_by : Files → Form → Result Job Fault
 job_by files (Raw file steps) = raw_job files file steps
 job_by files (Machine file) = described_job false files file
 job_by files (Private file) = described_job true files file
+job_by files (Make seed) = Ok (Print (made_of seed 4 50000))
+job_by files (Load seed) = load_job seed
 job_by files (LitmusForm file) = litmus_job files file
 job_by files (Asm file) = asm_job files file
 job_by files (AsmSteps file steps) = asm_run files file steps

@@ -3,8 +3,10 @@ pub mod Words
 pub mod Chain
 pub mod Starts
 pub mod Started
-pub mod Jobs
+pub mod Generated
+pub mod MadeRun
 pub mod Stages
+pub mod Jobs
 pub mod Views
 pub mod Ready
 pub mod Texts

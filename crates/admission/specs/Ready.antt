@@ -8,7 +8,7 @@ use Rattle.admission.specs.declared.faults.Refusal.{Refusal}
 use Rattle.admission.specs.declared.faults.Refusal.TheVariants.{Fault as Faulty, Memory as NoMemory}
 use Rattle.admission.specs.declared.setup.Setup.{Setup}
 use Rattle.admission.specs.declared.setup.Job.{Job}
-use Rattle.admission.specs.declared.setup.Job.TheVariants.{Monitored, Alone, Litmus, Listing}
+use Rattle.admission.specs.declared.setup.Job.TheVariants.{Monitored, Alone, Print, Litmus, Listing}
 use Rattle.admission.specs.Chain.{Files}
 use Rattle.admission.specs.Jobs.{short_in}
 use Rattle.admission.specs.Stages.{FailedAt, IsCaused, Gives}
@@ -29,6 +29,7 @@ pub record IsSetup (setup : Setup) : Type 0 where
 abbrev pub IsReady : Job → Type 0
 IsReady (Monitored setup sums) = IsSetup setup × (unbuilt (described_seen setup.machine setup.plan) ≡ None)
 IsReady (Alone setup) = IsSetup setup
+IsReady (Print made) = Unit {0}
 IsReady (Litmus bytes) = Unit {0}
 IsReady (Listing assembled) = Unit {0}
 

@@ -3,7 +3,7 @@ use Rattle.std.specs.Prelude.{◌≡◌, ◌≤◌, ℕ, List, length, Option, S
 use Rattle.guest_asm.specs.declared.fault.AsmCause.{AsmCause}
 use Rattle.guest_asm.specs.Assembly.{assembly_of}
 use Rattle.admission.specs.Chain.{Files, longest_text}
-use Rattle.admission.specs.Words.{Form, Raw, Machine, Private, Litmus, Asm, AsmSteps, form_of}
+use Rattle.admission.specs.Words.{Form, Raw, Machine, Private, Make, Load, Litmus, Asm, AsmSteps, form_of}
 
 -- a form names this text, to be printed or run
 abbrev pub Names : List ℕ → Option Form → Type 0
@@ -12,6 +12,8 @@ Names name (Some (AsmSteps file steps)) = file ≡ name
 Names name (Some (Raw file steps)) = ⊥
 Names name (Some (Machine file)) = ⊥
 Names name (Some (Private file)) = ⊥
+Names name (Some (Make seed)) = ⊥
+Names name (Some (Load seed)) = ⊥
 Names name (Some (Litmus file)) = ⊥
 Names name None = ⊥
 

@@ -14,7 +14,7 @@ use Rattle.admission.specs.declared.setup.Job.{Job as Kept}
 use Rattle.admission.specs.declared.setup.Job.TheVariants as kept
 use Rattle.admission.specs.Starts.{Start, blocks_of}
 use Rattle.guest_asm.specs.Assembly.{assembly_seen}
-use Rattle.admission.specs.Jobs.{Job, Monitored, Alone, Litmus, Listing}
+use Rattle.admission.specs.Jobs.{Job, Monitored, Alone, Print, Litmus, Listing}
 use Rattle.admission.specs.Stages.{bytes_at}
 
 -- an image, as the private machine starts from it
@@ -87,5 +87,6 @@ starts_of setup = paired setup.images (map (disk_numbered (disks_seen setup.disk
 abbrev pub job_seen : Kept → Job
 job_seen (kept.Monitored setup sums) = Monitored (described_seen setup.machine setup.plan) (starts_of setup) sums
 job_seen (kept.Alone setup) = Alone (described_seen setup.machine setup.plan) (starts_of setup)
+job_seen (kept.Print made) = Print made
 job_seen (kept.Litmus bytes) = Litmus bytes
 job_seen (kept.Listing assembled) = Listing (assembly_seen assembled)

@@ -35,6 +35,10 @@ pub data Form : Type 0 where
   Machine : Text → Form
   -- what a description says, each guest alone
   Private : Text → Form
+  -- what is made from a number is printed
+  Make : ℕ → Form
+  -- what is made from a number runs, under the monitor
+  Load : ℕ → Form
   -- what a litmus file says
   Litmus : Text → Form
   -- what the text of a program is assembled to
@@ -81,6 +85,10 @@ given_by rows = record {
 abbrev pub most_steps : ℕ
 most_steps = 16000000
 
+-- the greatest number from which something is made
+abbrev pub most_seed : ℕ
+most_seed = 4294967295
+
 abbrev pub with_steps : (Text → ℕ → Form) → Text → Option ℕ → Option Form
 with_steps form file None = None
 with_steps form file (Some steps) = Some (form file steps)
@@ -90,6 +98,8 @@ abbrev pub chosen : Option Text → Option Text → Option Text → Option Text 
 chosen (Some file) (Some steps) None None None None None None = with_steps Raw file (number_of most_steps steps)
 chosen None None (Some file) None None None None None = Some (Machine file)
 chosen None None None (Some file) None None None None = Some (Private file)
+chosen None None None None (Some seed) None None None = option_map Make (number_of most_seed seed)
+chosen None None None None None (Some seed) None None = option_map Load (number_of most_seed seed)
 chosen None None None None None None (Some file) None = Some (Litmus file)
 chosen None None None None None None None (Some file) = Some (Asm file)
 chosen None (Some steps) None None None None None (Some file) = with_steps AsmSteps file (number_of most_steps steps)
@@ -112,6 +122,8 @@ abbrev pub form_seen : Read → Form
 form_seen (read.Raw file steps) = Raw file.now steps
 form_seen (read.Machine file) = Machine file.now
 form_seen (read.Private file) = Private file.now
+form_seen (read.Make seed) = Make seed
+form_seen (read.Load seed) = Load seed
 form_seen (read.Litmus file) = Litmus file.now
 form_seen (read.Asm file) = Asm file.now
 form_seen (read.AsmSteps file steps) = AsmSteps file.now steps
@@ -121,6 +133,8 @@ abbrev pub IsFew : Read → Type 0
 IsFew (read.Raw file steps) = steps ≤ most_steps
 IsFew (read.Machine file) = Unit {0}
 IsFew (read.Private file) = Unit {0}
+IsFew (read.Make seed) = Unit {0}
+IsFew (read.Load seed) = Unit {0}
 IsFew (read.Litmus file) = Unit {0}
 IsFew (read.Asm file) = Unit {0}
 IsFew (read.AsmSteps file steps) = steps ≤ most_steps

@@ -51,7 +51,7 @@ pub fn check(alloc: Global, machine: &Machine, plan: &Plan) -> Result<(), Refusa
     requires { IsDescribed machine.now plan.now }
     ensures { Gives result (checks (described_seen machine.now plan.now)) }
 {
-    if let Err(fault) = check_built(unbuilt(machine, plan)) {
+    if let Err(fault) = check_built(unbuilt(plan)) {
         return Err(Refusal::Fault(fault));
     }
     check_served(alloc, machine, plan)

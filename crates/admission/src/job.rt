@@ -18,6 +18,7 @@ use crate::disks::disks_in;
 use crate::guests::{Starts, starts_in};
 use crate::images::{LONGEST_IMAGE, raw_image};
 use crate::library::{bytes_at, place_of};
+use crate::made::{load_job, made_job};
 use crate::single::{SINGLE_PAGES, single_job};
 use crate::words::{Form, read_form};
 use crate::{Job, Refusal, Setup};
@@ -87,7 +88,7 @@ fn checked(
 }
 
 /// The guests' files, and then whether all is built and fits.
-fn guests_of<S: Shelf>(
+pub fn guests_of<S: Shelf>(
     alloc: Global,
     shelf: &mut S,
     files: &mut FileList,
@@ -195,6 +196,8 @@ fn job_by<S: Shelf>(
         Form::Raw(name, steps) => raw_job(alloc, shelf, files, name, steps),
         Form::Machine(name) => described_job(alloc, shelf, files, false, name),
         Form::Private(name) => described_job(alloc, shelf, files, true, name),
+        Form::Make(seed) => made_job(alloc, seed),
+        Form::Load(seed) => load_job(alloc, shelf, seed),
         Form::Litmus(name) => litmus_job(alloc, shelf, files, name),
         Form::Asm(name) => asm_job(alloc, shelf, files, name),
         Form::AsmSteps(name, steps) => asm_run(alloc, shelf, files, name, steps),

@@ -1,14 +1,20 @@
 //! What the definitions say of words and of refusals.
-ghost use Rattle.std.specs.Prelude.{◌≡◌, ◌↔◌, ℕ, List, [], ◌∷◌, codes, Some, None, Err};
+ghost use Rattle.std.specs.Prelude.{◌≡◌, ◌↔◌, ℕ, List, [], ◌∷◌, codes, Some, None, Ok, Err};
+ghost use Rattle.elf_image.specs.Fields.{elf_header};
+ghost use Rattle.elf_image.specs.FirstFault.{first_fault};
+ghost use Rattle.machine_desc.specs.Described.{description_of};
+ghost use Rattle.guest_gen.specs.Description.{description_text};
+ghost use Rattle.guest_gen.specs.Image.{image_of};
 ghost use Rattle.guest_asm.specs.declared.fault.AsmCause.{AsmCause};
 ghost use Rattle.admission.specs.declared.faults.Fault.{Fault};
 ghost use Rattle.admission.specs.declared.faults.Fault.TheVariants.{Words, Asm};
 ghost use Rattle.admission.specs.Chain.{Files};
-ghost use Rattle.admission.specs.Jobs.{job_of};
+ghost use Rattle.admission.specs.Generated.{generated};
+ghost use Rattle.admission.specs.Jobs.{job_of, load_job, made_run, short_in};
 ghost use Rattle.admission.specs.Steady.{IsSteady};
 ghost use Rattle.admission.specs.Tells.{Tells};
 ghost use Rattle.admission.specs.Texts.{RefusesLine};
-ghost use Rattle.admission.specs.Words.{Form, Raw, Machine, Private, Litmus, Asm as AsmForm, AsmSteps, form_of};
+ghost use Rattle.admission.specs.Words.{Form, Raw, Machine, Private, Make, Load, Litmus, Asm as AsmForm, AsmSteps, form_of};
 
 use machine_desc::accepted;
 
@@ -29,7 +35,10 @@ pub fn examples()
     ensures two_forms { form_of (codes "--machine" ∷ codes "m" ∷ codes "--private" ∷ codes "m" ∷ []) ≡ None }
     ensures positional { form_of (codes "--machine" ∷ codes "m" ∷ codes "b" ∷ []) ≡ None }
     ensures many_steps { form_of (codes "--raw" ∷ codes "a" ∷ codes "--steps" ∷ codes "16000001" ∷ []) ≡ None }
-    ensures no_seed { form_of (codes "--load" ∷ codes "7" ∷ []) ≡ None }
+    ensures seed { form_of (codes "--load" ∷ codes "7" ∷ []) ≡ Some (Load 7) }
+    ensures greatest_seed { form_of (codes "--make=4294967295" ∷ []) ≡ Some (Make 4294967295) }
+    ensures no_seed { form_of (codes "--make" ∷ codes "4294967296" ∷ []) ≡ None }
+    ensures seed_steps { form_of (codes "--load" ∷ codes "7" ∷ codes "--steps" ∷ codes "5" ∷ []) ≡ None }
     ensures help { form_of (codes "--help" ∷ []) ≡ None }
 {}
 
@@ -46,4 +55,25 @@ pub fn told()
 /// What some files ask for stays where more are known, and so does a failed read, where its file isn't among them.
 pub fn steady()
     ensures { (words : List (List ℕ)) → IsSteady (λ files. job_of words files) }
+{}
+
+/// The description that is made is read as it is meant.
+pub fn made_described()
+    ensures { description_of (description_text 4 50000) ≡ Ok (generated 4 50000) }
+{}
+
+/// Each image that is made has no fault, whatever its number is.
+pub fn made_loads()
+    ensures sound { (start : ℕ) → first_fault (image_of start) 64 ≡ None }
+    ensures entry { (start : ℕ) → (elf_header (image_of start)).e_entry ≡ 0xC000_0200 }
+{}
+
+/// Each cell's cache and each guest that is made gets its frames.
+pub fn made_served()
+    ensures { short_in (generated 4 50000) ≡ None }
+{}
+
+/// What is made is accepted, for every number.
+pub fn made_accepted()
+    ensures { (seed : ℕ) → load_job seed ≡ Ok (made_run seed) }
 {}

@@ -11,6 +11,7 @@ mod images;
 mod job;
 mod law;
 mod library;
+mod made;
 mod setup;
 mod single;
 mod words;
@@ -19,7 +20,7 @@ pub use disks::{DiskList, DiskNumbers};
 pub use faults::{Fault, Refusal};
 pub use images::ImageList;
 pub use job::admit;
-pub use law::{examples, steady, told};
+pub use law::{examples, made_accepted, made_described, made_loads, made_served, steady, told};
 pub use setup::{Job, Setup};
 
 #[cfg(test)]

@@ -4,7 +4,7 @@ ghost use Rattle.clap.specs.Words.{app_of, rule_of, found_of, rows_of};
 ghost use Rattle.admission.specs.Chain.{known_form};
 ghost use Rattle.admission.specs.Numbers.{number_of as number_in};
 ghost use Rattle.admission.specs.Stages.{Gives, seen};
-ghost use Rattle.admission.specs.Words.{command as disco, option as option_rule, texts, form_of, given_by, form_given, form_seen, given_seen, IsFew};
+ghost use Rattle.admission.specs.Words.{command as disco, option as option_rule, texts, form_of, given_by, form_given, form_seen, given_seen, most_seed, IsFew};
 
 use crate::{Fault, Refusal};
 use clap::error::ErrorKind;
@@ -20,6 +20,10 @@ pub enum Form<'a> {
     Machine(&'a str),
     /// What a description says, each guest alone.
     Private(&'a str),
+    /// What is made from a number is printed.
+    Make(u32),
+    /// What is made from a number runs, under the monitor.
+    Load(u32),
     /// What a litmus file says.
     Litmus(&'a str),
     /// What the text of a program is assembled to.
@@ -44,6 +48,9 @@ struct Given<'a> {
 /// The most steps of a run.
 const MOST_STEPS: u64 = 16_000_000;
 
+/// The greatest number from which something is made.
+const MOST_SEED: u64 = 4_294_967_295;
+
 /// The number that 1 to 10 decimal digits spell, no more than the most.
 fn number_of(text: &str, most: u64) -> Option<u64>
     requires { most < 2 ^ 32 }
@@ -65,6 +72,16 @@ fn number_of(text: &str, most: u64) -> Option<u64>
         }
     }
     Some(number)
+}
+
+/// The number from which something is made.
+fn seed_of(text: &str) -> Option<u32>
+    ensures { result ≡ number_in most_seed text.now }
+{
+    match number_of(text, MOST_SEED) {
+        Some(seed) => Some(seed as u32),
+        None => None,
+    }
 }
 
 /// An option that takes one value.
@@ -113,6 +130,8 @@ fn choose<'a>(given: &Given<'a>) -> Option<Form<'a>>
         }
         (None, None, Some(file), None, None, None, None, None) => Some(Form::Machine(file)),
         (None, None, None, Some(file), None, None, None, None) => Some(Form::Private(file)),
+        (None, None, None, None, Some(seed), None, None, None) => Some(Form::Make(seed_of(seed)?)),
+        (None, None, None, None, None, Some(seed), None, None) => Some(Form::Load(seed_of(seed)?)),
         (None, None, None, None, None, None, Some(file), None) => Some(Form::Litmus(file)),
         (None, None, None, None, None, None, None, Some(file)) => Some(Form::Asm(file)),
         (None, Some(steps), None, None, None, None, None, Some(file)) => {

@@ -7,6 +7,7 @@ ghost use Rattle.guest_course.specs.CourseRules.{IsSound};
 ghost use Rattle.isolation_law.specs.Phases.{GoesOn};
 ghost use Rattle.guest_course.specs.CourseView.{hand_of, state_of};
 ghost use Rattle.guest_course.specs.StepCalls.{MayStep};
+ghost use Rattle.wire_queue.specs.Packets.{packet_of};
 
 use base_words::{
     Blocks, CellId, DataAccess, Frame, FrameList, FrameNo, GuestId, HwStep, NodeId, Page, Policy,
@@ -87,6 +88,7 @@ fn around(alloc: Global) -> Result<Around, AllocError>
     homes.push(CellId(0))?;
     Ok(Around {
         number: GuestId(0),
+        disk: 0,
         home: NodeId(0),
         site: Site {
             shape: Shape {
@@ -231,6 +233,7 @@ fn a_guest_prints_what_its_disk_has(rt: HostRuntime) -> Result<(), Fail> {
 fn packet(alloc: Global) -> Result<WirePacket, AllocError>
     ensures long { IfOk result (λ packet. packet.length ≡ 3) }
     ensures whole { IfOk result (λ packet. length (hand_of packet).bytes ≡ 3) }
+    ensures copied { IfOk result (λ packet. (packet_of packet).whole ≡ None) }
 {
     let mut page = Page::zeroed(alloc)?;
     page.set_byte(0, b'P');

@@ -5,11 +5,11 @@ use Rattle.std.proofs.lemmas.List.{get_or-set_other}
 use Rattle.base_words.specs.declared.moves.By.{By}
 use Rattle.base_words.specs.declared.moves.MoveKind.{MoveKind}
 use Rattle.private_machine.specs.Backing.{Move, Page, no_page, page_at, with_first}
-use Rattle.private_machine.specs.PageMove.{begun, finished}
+use Rattle.private_machine.specs.PageMove.{begun, finished, taken}
 use Rattle.isolation_law.specs.Dues.{without_due}
 use Rattle.isolation_law.specs.GuestState.{GuestState, page, due_on}
 use Rattle.isolation_law.specs.MoveRows.{Begins, Finishes}
-use Rattle.isolation_law.specs.PacketRows.{ComesToHand, Receives}
+use Rattle.isolation_law.specs.PacketRows.{ComesToHand, EndsDelivery, Receives}
 use Rattle.isolation_law.specs.Parts.{Wish}
 use Rattle.isolation_law.specs.Phases.{MayAct, lets_act}
 use Rattle.isolation_law.specs.SkipRow.{Skips}
@@ -99,6 +99,11 @@ pub acts-received : (s t : GuestState) (k : ℕ) → Receives s k t → (p : ℕ
 acts-received s t k row =
     acts-same s t (λ p. ap (λ (x : GuestState). due_on x p) row.after)
     (λ r. ap (λ (x : GuestState). (page x r).move) row.after ∙ moves-set s.pages row.q (with_first row.packet.bytes (page s row.q)) refl r)
+
+pub acts-ended : (s t : GuestState) (k : ℕ) → EndsDelivery s k t → (p : ℕ) → MayAct s p → MayAct t p
+acts-ended s t k row p =
+    acts-cleared s t row.q p (ap (λ (x : GuestState). due_on x p) row.after ∙ at-map (without_due row.q) refl s.due p)
+    (λ r no. ap (λ (x : GuestState). (page x r).move) row.after ∙ ap (λ (g : Page). g.move) (get_or-set_other s.pages row.q r (taken row.target (page s row.q)) no_page no))
 
 pub acts-hand : (s t : GuestState) → ComesToHand s t → (p : ℕ) → MayAct s p → MayAct t p
 acts-hand s t comes = acts-same s t (λ p. ap (λ (x : GuestState). due_on x p) comes.after) (λ r. ap (λ (x : GuestState). (page x r).move) comes.after)

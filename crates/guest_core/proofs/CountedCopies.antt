@@ -51,7 +51,7 @@ counted-alike s t cs uses around loaded u = record {
 -- ---- one copy
 
 -- the same cells, where they have the same numbers
-same-cells : (a b : List CellId) → map (λ (c : CellId). c.0) a ≡ map (λ (c : CellId). c.0) b → a ≡ b
+pub same-cells : (a b : List CellId) → map (λ (c : CellId). c.0) a ≡ map (λ (c : CellId). c.0) b → a ≡ b
 same-cells [] [] e = refl
 same-cells [] (y ∷ b) e = absurd cc
 same-cells (x ∷ a) [] e = absurd cc

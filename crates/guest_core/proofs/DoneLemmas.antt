@@ -1,5 +1,5 @@
 -- A move for which nobody waits is done: what its end changes of the pages, and what stays.
-use Rattle.std.proofs.Common.{◌≡◌, ℕ, zero, suc, ◌<◌, if◌then◌else◌, ⊎_elim, Bool, true, false, List, [], ◌∷◌, Some, None, length, get_or, set, refl, sym, ap, ◌∙◌, subst, arith}
+use Rattle.std.proofs.Common.{◌≡◌, ℕ, zero, suc, ◌<◌, if◌then◌else◌, ⊎_elim, Bool, true, false, List, [], ◌∷◌, Option, Some, None, length, get_or, set, refl, sym, ap, ◌∙◌, subst, arith}
 use Rattle.std.specs.Prelude.{◌≢◌, ◌⊎◌}
 use Rattle.std.proofs.Math.ListN.{length-set}
 use Rattle.std.proofs.lemmas.List.{get_or-set_same, get_or-set_other}
@@ -18,6 +18,8 @@ use Rattle.isolation_law.specs.MoveRows.{Finishes}
 use Rattle.isolation_law.specs.PacketRows.{ComesToHand}
 use Rattle.isolation_law.specs.Phases.{GoesOn, owed, all_halted}
 use Rattle.isolation_law.specs.Run.{Silent, Run}
+use Rattle.isolation_law.specs.EndRows.{takes}
+use Rattle.guest_course.specs.Acting.{IsTaken}
 use Rattle.guest_core.specs.MoveCalls.{HasWaiting, is_done}
 
 pub true-false : true ≡ false → ⊥
@@ -45,6 +47,22 @@ somebody l some = by (nobody l) refl
     by : (b : Bool) → nobody l ≡ b → nobody l ≡ false
     by true is = absurd (some (nobody-none l is))
     by false is = is
+
+-- a move that is done and takes its page shared
+pub taken-done : (s : GuestState) (q : ℕ) → is_done (page s q).move ≡ true → ((m : Move) → (page s q).move ≡ Some m → HasNone m.waiting → takes m.change ≡ true) → IsTaken s q
+taken-done s q done taken = by (page s q).move refl done
+  where
+    at : (m : Move) (c : Change) → (page s q).move ≡ Some m → m.change ≡ c → takes c ≡ true → HasNone m.waiting → IsTaken s q
+    at m (Migrates target) e f is none = absurd (true-false (sym is))
+    at m (Replicates target) e f is none = absurd (true-false (sym is))
+    at m Collapses e f is none = absurd (true-false (sym is))
+    at m (Breaks target) e f is none = absurd (true-false (sym is))
+    at m (TakesShared target) e f is none = record { target = target; waiting = m.waiting; open_move = e ∙ ap (λ (x : Change). Some (record { change = x; waiting = m.waiting })) f; nobody = none }
+    at m (GivesShared target) e f is none = absurd (true-false (sym is))
+
+    by : (x : Option Move) → (page s q).move ≡ x → is_done x ≡ true → IsTaken s q
+    by None e is = absurd (true-false (sym is))
+    by (Some m) e is = let none = nobody-none m.waiting is in at m m.change e refl (taken m e none) none
 
 pub waits-yet : (s : GuestState) (q : ℕ) (set : List Bool) → HasWaiting s q set → is_done (page s q).move ≡ false
 waits-yet s q set w = ap is_done w.open_move ∙ somebody w.move.waiting (λ none. w.somebody (subst HasNone w.waiting_is none))

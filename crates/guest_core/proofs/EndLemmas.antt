@@ -110,7 +110,7 @@ ends-next joins start now new n lt are on makes hand =
 
 each-next : Joins → (start now new : Monitored) (n : ℕ) (answer : Ready) → n < length start.state.pages → AreFinished start now n → (new.state.end ≡ None → GoesOn new.state) → FinishesReady now (record { 0 = n }) new answer
     → new.state.hand ≡ now.state.hand → AreFinished start new (suc n)
-each-next joins start now new n ready.Finished lt are on makes hand = ends-next joins start now new n lt are on makes hand
+each-next joins start now new n ready.Finished lt are on finishes hand = ends-next joins start now new n lt are on finishes.makes hand
 each-next joins start now new n (ready.Waits set) lt are on waits hand = waits-next start now new n lt are waits.rests (waits-yet now.state n set waits.waiting)
 each-next joins start now new n ready.NoMove lt are on none hand = waits-next start now new n lt are none.rests (ap is_done none.none)
 

@@ -1,5 +1,5 @@
 -- A turn's entries, and what is kept after them.
-use Rattle.std.proofs.Common.{◌≡◌, inl, ◌<◌, ◌≤◌, Bool, true, false, List, [], ◌∷◌, ◌++◌, Some, None, length, refl, sym, ap, ◌∙◌, if◌then◌else◌, subst, arith}
+use Rattle.std.proofs.Common.{◌≡◌, inl, ℕ, ◌<◌, ◌≤◌, Bool, true, false, List, [], ◌∷◌, ◌++◌, Option, Some, None, option_map, length, refl, sym, ap, ◌∙◌, if◌then◌else◌, subst, arith}
 use Rattle.std.proofs.lemmas.List.{append-nil, append_assoc}
 use Rattle.base_words.specs.declared.events.Event.{Event}
 use Rattle.base_words.specs.declared.events.Event.TheVariants.{Direct, Refill, Emulate, End as Ending}
@@ -16,17 +16,28 @@ use Rattle.isolation_law.specs.Phases.{all_halted, GoesOn}
 use Rattle.isolation_law.specs.RefillRow.{Refills}
 use Rattle.isolation_law.specs.Run.{Run}
 use Rattle.isolation_law.specs.Start.{Boot}
-use Rattle.isolation_law.specs.StepRows.{Steps, Emulates}
-use Rattle.guest_core.specs.GuestCalls.{Learns, step_entries, end_of, SendsOut, TurnsEmulate}
+use Rattle.isolation_law.specs.StepRows.{Steps}
+use Rattle.guest_core.specs.GuestCalls.{Learns, Leaves, SendsOut, TurnsEmulate, UsesPage, end_of, step_entries}
+use Rattle.wire_queue.specs.declared.packet.WirePacket.{WirePacket}
+use Rattle.std.specs.Option.{option_and_then}
+use Rattle.private_machine.specs.Backing.{Page}
+use Rattle.guest_course.specs.declared.course.Course.{Course}
+use Rattle.guest_course.specs.EndCalls.{letting_go}
+use Rattle.guest_course.specs.TakingCalls.{handed_in, whole_of}
+use Rattle.guest_core.specs.GuestView.{Monitored, Shared}
+use Rattle.frame_words.specs.declared.view.View.{View}
+use Rattle.guest_course.specs.Acting.{page_used}
+use Rattle.guest_course.specs.EmulateCalls.{UsesNoPage}
 use Rattle.guest_core.specs.Making.{Makes}
-use Rattle.guest_core.specs.MoveCalls.{IsAtRest, ReadsFree}
-use Rattle.guest_core.specs.GuestView.{Monitored, entries_due}
-use Rattle.guest_course.specs.CourseView.{state_of}
+use Rattle.guest_core.specs.MoveCalls.{IsAtRest}
+use Rattle.guest_course.specs.CourseView.{hand_of, state_of}
 use Rattle.guest_core.specs.declared.parts.Parts.{Parts}
 use Rattle.guest_core.specs.Kept.{Kept, IsKept}
-use Rattle.guest_core.specs.TurnParts.{Concludes}
-use Rattle.guest_core.specs.Laws.{MoveLaws, RowLaws, RunLaws}
-use Rattle.guest_core.proofs.KeptProofs.{kept-one, kept-none, emulate-end, end-due}
+use Rattle.guest_core.specs.TurnParts.{Concludes, Quietly}
+use Rattle.guest_core.specs.Laws.{RowLaws, RunLaws}
+use Rattle.guest_core.proofs.HandProofs.{Grows}
+use Rattle.guest_core.proofs.KeptProofs.{kept-one, kept-none}
+use Rattle.guest_core.proofs.LettingLemmas.{kept-closed}
 
 pub kept-direct : RowLaws → RunLaws → (b : Boot) (s t : GuestState) (journal : List Event) (notes : List SidedNote) (p : ProcId) (v : VcpuId) → Kept b s journal notes → p.0 < length s.processors
     → Steps s p.0 v.0 t → Kept b t (journal ++ Direct p v ∷ []) (notes ++ sided p.0 (Made (Direct p v)) ∷ [])
@@ -37,18 +48,16 @@ pub kept-refill : RowLaws → RunLaws → (b : Boot) (s t : GuestState) (journal
 kept-refill w r b s t journal notes p k row = kept-none w r b s t journal notes (Refill p) k row refl
 
 -- a step by the monitor's hand, and the end where it halted the last virtual processor
-concluded : (halted : Bool) → RowLaws → RunLaws → (b : Boot) (m t : GuestState) (journal : List Event) (notes : List SidedNote) (p : ProcId) (v : VcpuId) → Kept b m (journal ++ Emulate p v ∷ []) notes → Concludes halted m t
-    → Kept b t (journal ++ step_entries p v halted) notes
-concluded false w r b m t journal notes p v k is = subst (λ (x : GuestState). Kept b x (journal ++ Emulate p v ∷ []) notes) (sym is) k
-concluded true w r b m t journal notes p v k is =
-    subst (λ (j : List Event). Kept b t j notes) (append_assoc journal (Emulate p v ∷ []) (Ending ByHalt ∷ []))
-    (kept-none w r b m t (journal ++ Emulate p v ∷ []) notes (Ending ByHalt) k is refl)
+pub concluded : (halted : Bool) → Grows → RowLaws → RunLaws → (b : Boot) (m t : GuestState) (pages : List Page) (journal : List Event) (notes : List SidedNote) (p : ProcId) (v : VcpuId) → Kept b m (journal ++ Emulate p v ∷ []) notes → Concludes halted m t → pages ≡ m.pages
+    → Kept b t (journal ++ step_entries p v halted pages) notes
+concluded false grows w r b m t pages journal notes p v k is same = subst (λ (x : GuestState). Kept b x (journal ++ Emulate p v ∷ []) notes) (sym is) k
+concluded true grows w r b m t pages journal notes p v k is same =
+    subst (λ (j : List Event). Kept b t j notes) (append_assoc journal (Emulate p v ∷ []) (letting_go 0 pages ++ Ending ByHalt ∷ []))
+    (kept-closed grows w r b m t (journal ++ Emulate p v ∷ []) pages ByHalt notes k (subst (λ (l : List Page). Run m (letting_go 0 l ++ Ending ByHalt ∷ []) t) (sym same) is))
 
-pub kept-emulate : RowLaws → RunLaws → (b : Boot) (s m t : GuestState) (journal : List Event) (notes : List SidedNote) (p : ProcId) (v : VcpuId) → Kept b s journal notes → p.0 < length s.processors → Emulates s p.0 v.0 m
-    → (halted : Bool) → Concludes halted m t → Kept b t (journal ++ step_entries p v halted) (notes ++ sided p.0 (Made (Emulate p v)) ∷ [])
-kept-emulate w r b s m t journal notes p v k there row halted is =
-    concluded halted w r b m t journal (notes ++ sided p.0 (Made (Emulate p v)) ∷ []) p v
-    (kept-one w r b s m journal notes (Emulate p v) (sided p.0 (Made (Emulate p v))) k (inl row) refl there) is
+pub kept-step : RowLaws → RunLaws → (b : Boot) (s m : GuestState) (journal : List Event) (notes : List SidedNote) (p : ProcId) (v : VcpuId) → Kept b s journal notes → p.0 < length s.processors → Row s (Emulate p v) m
+    → Kept b m (journal ++ Emulate p v ∷ []) (notes ++ sided p.0 (Made (Emulate p v)) ∷ [])
+kept-step w r b s m journal notes p v k there row = kept-one w r b s m journal notes (Emulate p v) (sided p.0 (Made (Emulate p v))) k row refl there
 
 -- ---- what is kept, told of the journal and the notes that there are
 
@@ -72,48 +81,14 @@ noted-kept g seat n k is kept = record {
   posted = k.posted;
 }
 
--- ---- how far the guest is
-
-pub goes-on : (halted : Bool) (m t : GuestState) → all_halted m.vcpus ≡ halted → m.end ≡ None → m.closing ≡ None → Concludes halted m t → t.end ≡ None → GoesOn t
-goes-on true m t all on none is on-then = absurd (no (sym (ap (λ (x : GuestState). x.end) is.after) ∙ on-then))
-  where
-    no : Some ByHalt ≡ None → ⊥
-    no e = cc
-goes-on false m t all on none is on-then = subst GoesOn (sym is) (record { not_ended = on; owes_no_end = ap (λ (b : Bool). if b then Some ByHalt else m.closing) all ∙ none })
-
-pub same-vcpus : (halted : Bool) (m t : GuestState) → Concludes halted m t → t.vcpus ≡ m.vcpus
-same-vcpus true m t is = ap (λ (x : GuestState). x.vcpus) is.after
-same-vcpus false m t is = ap (λ (x : GuestState). x.vcpus) is
-
-pub ends-so : (halted : Bool) (m t : GuestState) → m.end ≡ None → Concludes halted m t → t.end ≡ end_of halted
-ends-so true m t on is = ap (λ (x : GuestState). x.end) is.after
-ends-so false m t on is = ap (λ (x : GuestState). x.end) is ∙ on
-
-pub concluded-due : (halted : Bool) → RowLaws → MoveLaws → (m t : GuestState) → Concludes halted m t → entries_due t ≤ entries_due m
-concluded-due true w v m t is = end-due w v m t ByHalt is
-concluded-due false w v m t is = omega (arith, ap entries_due is)
-
 -- ---- what a turn made
 
 pub one-row : (s t : GuestState) (e : Event) → Row s e t → Run s (e ∷ []) t
 one-row s t e row = (s, t, inl refl, row, inl refl)
 
-step-run : (halted : Bool) (s m t : GuestState) (p : ProcId) (v : VcpuId) → Emulates s p.0 v.0 m → Concludes halted m t → Run s (step_entries p v halted) t
-step-run true s m t p v row is = (s, m, inl refl, inl row, (m, t, inl refl, is, inl refl))
-step-run false s m t p v row is = (s, m, inl refl, inl row, inl is)
-
-pub emulate-turn : (halted : Bool) (old new : Monitored) (m : GuestState) (p : ProcId) (v : VcpuId) → all_halted m.vcpus ≡ halted → IsAtRest old.state p.0 → ReadsFree old.state v.0 → Emulates old.state p.0 v.0 m → Concludes halted m new.state
-    → new.journal ≡ old.journal ++ step_entries p v halted → SendsOut old new → TurnsEmulate old p v new
-emulate-turn halted old new m p v all rest free row is journal sends =
-    let same : all_halted new.state.vcpus ≡ halted = ap all_halted (same-vcpus halted m new.state is) ∙ all in
-    let done : Makes old (step_entries p v halted) new = record { journal = journal; run = step-run halted old.state m new.state p v row is } in
-    record {
-      rest = rest;
-      free = free;
-      makes = subst (λ (h : Bool). Makes old (step_entries p v h) new) (sym same) done;
-      end = ends-so halted m new.state (emulate-end old.state m p.0 v.0 row) is ∙ ap end_of (sym same);
-      sends = sends;
-    }
+pub step-run : (halted : Bool) (s m t : GuestState) (p : ProcId) (v : VcpuId) → Row s (Emulate p v) m → Concludes halted m t → Run s (step_entries p v halted m.pages) t
+step-run true s m t p v row is = (s, m, inl refl, row, is)
+step-run false s m t p v row is = (s, m, inl refl, row, inl is)
 
 -- nothing is noted
 pub learns-none : (old new : Monitored) (token : Token) → new.notes ≡ old.notes → Learns old token [] new token
@@ -121,3 +96,60 @@ learns-none old new token same = record {
   seat = same ∙ sym (append-nil old.notes);
   token_is = ap (λ (l : List SidedNote). record token { notes = l }) (sym (append-nil token.notes));
 }
+
+-- ---- a step that ended nothing
+
+pub runs-on : (t : GuestState) → GoesOn t → all_halted t.vcpus ≡ false
+runs-on t on = by (all_halted t.vcpus) refl
+  where
+    no : Some ByHalt ≡ None → ⊥
+    no e = cc
+
+    by : (b : Bool) → all_halted t.vcpus ≡ b → all_halted t.vcpus ≡ false
+    by true is = absurd (no (sym (ap (λ (b : Bool). if b then Some ByHalt else t.closing) is) ∙ on.owes_no_end))
+    by false is = is
+
+pub stepped-on : (shared : Shared) (old new : Monitored) (p : ProcId) (v : VcpuId) → IsAtRest old.state p.0 → UsesPage shared old.disk old.state v.0 old.view new.view → Row old.state (Emulate p v) new.state → GoesOn new.state → Makes old (Emulate p v ∷ []) new → SendsOut old v.0 new
+    → TurnsEmulate shared old p v new
+stepped-on shared old new p v rest uses row on makes sends =
+    let runs = runs-on new.state on in
+    record {
+      rest = rest;
+      uses = uses;
+      mid = new.state;
+      step = row;
+      makes = subst (λ (b : Bool). Makes old (step_entries p v b new.state.pages) new) (sym runs) makes;
+      end = on.not_ended ∙ sym (ap end_of runs);
+      sends = sends;
+    }
+
+-- a step that uses no page
+pub uses-none : (shared : Shared) (disk : ℕ) (s : GuestState) (v : ℕ) (old new : View) → UsesNoPage s v → UsesPage shared disk s v old new
+uses-none shared disk s v old new none = record {
+  free = λ q at. absurd (no q (sym none ∙ at));
+  copies = λ b q at rests. absurd (no q (sym none ∙ ap page_used at));
+  plain = λ q length to need at is. absurd (no q (sym none ∙ ap page_used at));
+}
+  where
+    no : (q : ℕ) → None ≡ Some q → ⊥
+    no q e = cc
+
+-- ---- a call for which nothing is told
+
+pub quiet-leaves : (old new : Monitored) (token : Token) → Quietly old new → Leaves old token [] new token
+quiet-leaves old new token q = record { learns = learns-none old new token q.notes; same = q.same; handed = q.handed; room = q.room }
+
+-- what the packet in hand hands on is told by what is in hand
+pub handed-same : (c d : Course) → d.hand ≡ c.hand → handed_in d ≡ handed_in c
+handed-same c d same = ap (λ (h : Option WirePacket). option_and_then whole_of h) same
+
+-- who has no packet in hand has none that hands on a frame
+pub none-handed : (c : Course) → (state_of c).hand ≡ None → handed_in c ≡ None
+none-handed c none = by c.hand none
+  where
+    no : (packet : WirePacket) → Some (hand_of packet) ≡ None → ⊥
+    no packet e = cc
+
+    by : (hand : Option WirePacket) → option_map hand_of hand ≡ None → option_and_then whole_of hand ≡ None
+    by None e = refl
+    by (Some packet) e = absurd (no packet e)

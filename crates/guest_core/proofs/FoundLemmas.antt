@@ -35,7 +35,7 @@ contains-times i g hs has = at has.0 hs has.1 has.2
     at (suc k) (x ∷ hs) lt is = let later = at k hs (omega arith) is in omega arith
 
 -- of another word it is among the later ones
-contains-later : (x : Hold) (hs : List Hold) (word own : ℕ) → x.word ≢ word → Contains (x ∷ hs) (hold word own) → Contains hs (hold word own)
+pub contains-later : (x : Hold) (hs : List Hold) (word own : ℕ) → x.word ≢ word → Contains (x ∷ hs) (hold word own) → Contains hs (hold word own)
 contains-later x hs word own ne has = at has.0 has.1 has.2
   where
     at : (k : ℕ) → k < length (x ∷ hs) → slice_index_or (x ∷ hs) k (hold word own) ≡ hold word own → Contains hs (hold word own)
@@ -90,7 +90,7 @@ gains v w frame generation pays home low none is = dite (ℕ_discrete pays home)
     paid = holding v (cell_word pays) 0
 
 -- of a frame under a generation there are no more than of the frame
-copies-fewer : (frame generation : ℕ) (cs : List Copy) → count_of (is_copy frame generation) cs ≤ count_of (λ f g. f == frame) cs
+pub copies-fewer : (frame generation : ℕ) (cs : List Copy) → count_of (is_copy frame generation) cs ≤ count_of (λ f g. f == frame) cs
 copies-fewer frame generation [] = omega arith
 copies-fewer frame generation (c ∷ cs) =
     let here : cond {A = ℕ} (is_copy frame generation c.frame c.generation) 1 0 ≤ cond {A = ℕ} (c.frame == frame) 1 0 = both (c.frame == frame) (c.generation == generation) in
@@ -102,7 +102,7 @@ copies-fewer frame generation (c ∷ cs) =
     both false b = omega arith
 
 -- a copy that counts is of this generation
-is-generation : (frame generation : ℕ) (c : Copy) → 0 < cond {A = ℕ} (is_copy frame generation c.frame c.generation) 1 0 → c.generation ≡ generation
+pub is-generation : (frame generation : ℕ) (c : Copy) → 0 < cond {A = ℕ} (is_copy frame generation c.frame c.generation) 1 0 → c.generation ≡ generation
 is-generation frame generation c some = by (c.frame == frame) (c.generation == generation) refl some
   where
     by : (a b : Bool) → (c.generation == generation) ≡ b → 0 < cond {A = ℕ} (a && b) 1 0 → c.generation ≡ generation
@@ -111,7 +111,7 @@ is-generation frame generation c some = by (c.frame == frame) (c.generation == g
     by false b is lt = absurd (omega arith)
 
 -- the node of a search in one node alone
-the-node : (node other : NodeId) (place : ℕ) → slice_get (node ∷ []) place ≡ Some other → other.0 ≡ node.0
+pub the-node : (node other : NodeId) (place : ℕ) → slice_get (node ∷ []) place ≡ Some other → other.0 ≡ node.0
 the-node node other zero is = cc
 the-node node other (suc place) is = absurd cc
 
@@ -119,22 +119,20 @@ the-node node other (suc place) is = absurd cc
 pub frame-below : (frame frames node nodes : ℕ) → 0 < frames → frame / frames ≡ node → node < nodes → frame < nodes * frames
 frame-below frame frames node nodes some on lt = omega (arith, div-add-mod' frame frames, mul-add-lt (frame / frames) frames (frame % frames) nodes (omega arith) (mod-lt frame some))
 
--- what a search of one node tells of a frame that it found
+-- what a search tells of a frame that it found on a node
 pub record IsFound (layout : Layout) (w : Surroundings) (node : ℕ) (c : Copy) (v u : View) : Type 0 where
   pub on : c.frame / layout.frames ≡ node
   pub gains : Gains v u c.frame c.generation (cell_of_frame w c.frame) (not (cell_of_frame w c.frame == home_cell w))
   pub unheld : frame_holds v c.frame ≡ 0
 
-pub found-one : (layout : Layout) (lends : List ℕ) (w : Surroundings) (node : NodeId) (c : Copy) (v u : View) → IsLayoutOf layout w → layout_cell layout node.0 < 8
-    → Finds layout lends (home_cell w) (node ∷ []) c.frame c.generation v u → IsFound layout w node.0 c v u
-found-one layout lends w node c v u lies low f =
-    let same = the-node node f.node f.place f.ordered in
-    let on : c.frame / layout.frames ≡ node.0 = f.on ∙ same in
+pub found-first : (layout : Layout) (lends : List ℕ) (w : Surroundings) (order : List NodeId) (c : Copy) (v u : View) → IsLayoutOf layout w → (f : Finds layout lends (home_cell w) order c.frame c.generation v u)
+    → layout_cell layout f.node.0 < 8 → IsFound layout w f.node.0 c v u
+found-first layout lends w order c v u lies f low =
     let pays : layout_cell layout f.node.0 ≡ cell_of_frame w c.frame = ap (layout_cell layout) (sym f.on) ∙ pays-cell layout w c.frame lies in
-    let got = gains v u c.frame c.generation (layout_cell layout f.node.0) (home_cell w) (subst (λ (n : ℕ). layout_cell layout n < 8) (sym same) low) f.took.unheld (ap (λ (x : View). x.holds) f.took.after) in
+    let got = gains v u c.frame c.generation (layout_cell layout f.node.0) (home_cell w) low f.took.unheld (ap (λ (x : View). x.holds) f.took.after) in
     let all = subst (λ (n : ℕ). Gains v u c.frame c.generation n (not (n == home_cell w))) pays got in
     record {
-      on = on;
+      on = f.on;
       gains = all;
       unheld = let a = all.frames c.frame in let b = f.once in let own : cond {A = ℕ} (c.frame == c.frame) 1 0 ≡ 1 = ap (λ (b : Bool). cond {A = ℕ} b 1 0) (eq-eqb c.frame c.frame refl) in omega arith;
     }

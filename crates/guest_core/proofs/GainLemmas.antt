@@ -1,5 +1,5 @@
 -- What a guest holds and uses once a move of a page has begun, with the frame that it gained or with none.
-use Rattle.std.proofs.Common.{◌≡◌, ℕ, ◌+◌, ◌<◌, ◌==◌, cond, if◌then◌else◌, Bool, true, false, List, [], ◌∷◌, ◌++◌, Option, Some, None, map, refl, sym, ap, ◌∙◌, subst, arith}
+use Rattle.std.proofs.Common.{◌≡◌, ℕ, ◌+◌, ◌<◌, ◌==◌, cond, if◌then◌else◌, Bool, true, false, List, [], ◌∷◌, ◌++◌, Option, Some, None, length, map, refl, sym, ap, ◌∙◌, subst, arith}
 use Rattle.std.specs.Prelude.{count_by}
 use Rattle.std.proofs.lemmas.List.{get_or-set_same}
 use Rattle.std.proofs.lemmas.List.Sums.{sum_by-append}
@@ -11,6 +11,7 @@ use Rattle.cell_depend.specs.Counters.{UsesState}
 use Rattle.frame_words.specs.declared.view.View.{View}
 use Rattle.private_machine.specs.Backing.{Copy, Change, Move, Page, no_page}
 use Rattle.private_machine.specs.Backing.{Migrates, Replicates, Collapses, Breaks, TakesShared, GivesShared}
+use Rattle.private_machine.specs.Operation.{Operation}
 use Rattle.private_machine.specs.PageMove.{begun, gained, kind_of}
 use Rattle.isolation_law.specs.CellUse.{held, used_frames, lies_in}
 use Rattle.isolation_law.specs.Exchange.{Exchanged, count_of}
@@ -20,6 +21,7 @@ use Rattle.isolation_law.specs.Needs.{Need, none_of, for_change}
 use Rattle.isolation_law.specs.Surroundings.{Surroundings, cell_of_frame, home_cell}
 use Rattle.isolation_law.specs.UseChange.{UseChanged}
 use Rattle.guest_core.specs.Holding.{is_copy, frames_around, HoldsCopies, IsHolding}
+use Rattle.guest_core.specs.MoveCalls.{IsDoing}
 use Rattle.guest_core.specs.Using.{AreUses, CountsCopies, IsShapeOf, frame_of, loaded_cells, rows_of}
 use Rattle.guest_core.proofs.UsingProofs.{frames-counted, recounted}
 
@@ -73,6 +75,19 @@ change-in d (Some m) = m.change
 pub same-change : (s t : GuestState) (q : ℕ) (kind : MoveKind) (node : ℕ) (by : By) (change : Change) → (row : Begins s q kind node by t) → t ≡ with_begun s q change None s.spares → row.change ≡ change
 same-change s t q kind node by change row is =
     ap (change-in change) (sym (ap (λ (g : Page). g.move) (get_or-set_same s.pages q (begun row.change (page s q)) no_page row.is_page)) ∙ ap (λ (x : GuestState). (page x q).move) (sym row.after ∙ is) ∙ ap (λ (g : Page). g.move) (get_or-set_same s.pages q (begun change (page s q)) no_page row.is_page))
+
+-- of whatever operation, and whatever stays of the spares
+pub same-begun : (s t : GuestState) (q : ℕ) (kind : MoveKind) (node : ℕ) (by : By) (change : Change) (operation : Option Operation) (rest : List Copy) → (row : Begins s q kind node by t) → t ≡ with_begun s q change operation rest → row.change ≡ change
+same-begun s t q kind node by change operation rest row is =
+    ap (change-in change) (sym (ap (λ (g : Page). g.move) (get_or-set_same s.pages q (begun row.change (page s q)) no_page row.is_page)) ∙ ap (λ (x : GuestState). (page x q).move) (sym row.after ∙ is) ∙ ap (λ (g : Page). g.move) (get_or-set_same s.pages q (begun change (page s q)) no_page row.is_page))
+
+-- the page is doing what was begun
+pub does-begun : (s t : GuestState) (q : ℕ) (change : Change) (operation : Option Operation) (rest : List Copy) → q < length s.pages → t ≡ with_begun s q change operation rest → IsDoing t q change
+does-begun s t q change operation rest lt is = record {
+  move = record { change = change; waiting = (page s q).mapped };
+  open_move = ap (λ (x : GuestState). (page x q).move) is ∙ ap (λ (g : Page). g.move) (get_or-set_same s.pages q (begun change (page s q)) no_page lt);
+  does = refl;
+}
 
 -- ---- a move that a page needs before its bytes change takes no frame
 

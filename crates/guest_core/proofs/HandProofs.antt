@@ -1,7 +1,9 @@
 -- A packet comes to hand: the guest is kept as it was, but for the packet.
-use Rattle.std.proofs.Common.{◌≡◌, ℕ, ◌<◌, Bool, false, List, length, get_or, sym, ap, ◌∙◌, subst}
+use Rattle.std.proofs.Common.{◌≡◌, ℕ, zero, suc, ◌/◌, ◌<◌, Bool, false, List, [], ◌∷◌, Option, None, Some, option_map, length, map, get_or, unwrap_or, slice_get, slice_index, refl, sym, ap, ◌∙◌, subst, arith}
+use Rattle.std.proofs.lemmas.List.{length-map}
 use Rattle.std.specs.Prelude.{All}
 use Rattle.base_words.specs.declared.events.Event.{Event}
+use Rattle.base_words.specs.declared.ids.CellId.{CellId}
 use Rattle.base_words.specs.declared.events.Event.TheVariants.{Load, Unload, Direct, Refill, Emulate, Begin, Ack, Finish, PacketIn, Discard, Skip, CellFails, End as Ending}
 use Rattle.frame_words.specs.declared.view.View.{View}
 use Rattle.shootdown.specs.declared.notes.Note.{Note}
@@ -13,15 +15,23 @@ use Rattle.isolation_law.specs.PacketRows.{ComesToHand}
 use Rattle.isolation_law.specs.Phases.{GoesOn}
 use Rattle.isolation_law.specs.Run.{Run}
 use Rattle.isolation_law.specs.Start.{Boot, start as started}
-use Rattle.isolation_law.specs.Surroundings.{Surroundings}
-use Rattle.wire_queue.specs.Between.{Made, guest_count}
-use Rattle.wire_queue.specs.PassLists.{IsListOf}
+use Rattle.isolation_law.specs.Surroundings.{Surroundings, home_cell}
+use Rattle.wire_queue.specs.Between.{Made, entry, guest_count, line_between, wire_between}
+use Rattle.wire_queue.specs.Ends.{Wire}
+use Rattle.wire_queue.specs.Lines.{FitsWhole, Line}
+use Rattle.wire_queue.specs.Packets.{Handed, Packet, packet_of}
+use Rattle.wire_queue.specs.PassLists.{IsListOf, taking_from, taking_wire}
+use Rattle.wire_queue.specs.QueueIds.{QueueId}
+use Rattle.wire_queue.specs.declared.packet.WirePacket.{WirePacket}
+use Rattle.guest_course.specs.CourseRules.{FitsHand, IsHandedHome}
+use Rattle.guest_course.specs.Posting.{AreTermsOf}
+use Rattle.guest_core.proofs.FoundLemmas.{frame-below}
 use Rattle.wire_queue.specs.declared.lists.PassList.{PassList}
 use Rattle.guest_core.specs.Holding.{HasFrames}
 use Rattle.guest_core.specs.Kept.{Kept}
 use Rattle.guest_core.specs.Asks.{asks}
 use Rattle.guest_core.specs.Noting.{Outlives, EntryHolds, HoldsOf, AreInOrder, shows_loaded, IsNoted}
-use Rattle.guest_core.specs.Wiring.{IsWired}
+use Rattle.guest_core.specs.Wiring.{IsWired, TakesNext}
 
 abbrev pub Grows : Type 0
 Grows = (s m t : GuestState) (journal : List Event) → Run s journal m → ComesToHand m t → Run s journal t
@@ -90,4 +100,55 @@ wired-again wires old new w is list same = record {
   guests = is.guests;
   number = ap (λ g. g.0) same ∙ is.number;
   is_guest = subst (λ g. g.0 < guest_count wires) (sym same) is.is_guest;
+  terms = is.terms;
+  at_home = is.at_home;
 }
+
+-- ---- what a packet hands on lies on the guest's home cell
+
+none-some : {A : Type 0} (a : A) → None ≡ Some a → ⊥
+none-some a is = cc
+
+line-is : (wires : Made) (from to : ℕ) (wire : Wire) → Some wire ≡ wire_between wires from to → wire.line ≡ line_between wires from to
+line-is wires from to wire is = by (entry wires.queues from to) is
+  where
+    by : (queue : Option QueueId) → Some wire ≡ option_map (λ (q : QueueId). record { queue = q; line = line_between wires from to }) queue → wire.line ≡ line_between wires from to
+    by None e = absurd (none-some wire (sym e))
+    by (Some q) e = ap (λ (x : Option Wire). (unwrap_or x wire).line) e
+
+cell-found : (cells : List CellId) (n cell : ℕ) → slice_get cells n ≡ Some (record { 0 = cell }) → (n < length cells) × (slice_index (map (λ (c : CellId). c.0) cells) n ≡ cell)
+cell-found [] n cell is = absurd (none-some _ is)
+cell-found (c ∷ cells) zero cell is = (omega arith, ap (λ (x : Option CellId). (unwrap_or x c).0) is)
+cell-found (c ∷ cells) (suc n) cell is = let later = cell-found cells n cell is in (omega (arith, later.0), later.1)
+
+home-found : (homes : List CellId) (n cell : ℕ) → slice_get homes n ≡ Some (record { 0 = cell }) → slice_get (map (λ (c : CellId). c.0) homes) n ≡ Some cell
+home-found [] n cell is = absurd (none-some _ is)
+home-found (c ∷ homes) zero cell is = ap (λ (x : Option CellId). Some ((unwrap_or x c).0)) is
+home-found (c ∷ homes) (suc n) cell is = home-found homes n cell is
+
+same-some : (a b : ℕ) → Some a ≡ Some b → a ≡ b
+same-some a b is = ap (λ x. unwrap_or x a) is
+
+handed-home : (w : Surroundings) (line : Line) (packet : Packet) (handed : Handed) → AreTermsOf w line.terms → slice_get w.homes w.guest ≡ Some (home_cell w) → line.to ≡ w.guest → 0 < w.frames → FitsWhole line packet handed → IsHandedHome w packet handed
+handed-home w line packet handed terms own to some fits =
+    let at = cell-found line.terms.cells (handed.frame / line.terms.frames) packet.cell fits.lies in
+    let count : length line.terms.cells ≡ length w.nodes = sym (length-map line.terms.cells (λ (c : CellId). c.0)) ∙ ap length terms.cells in
+    let below : handed.frame / w.frames < length w.nodes = subst (λ (n : ℕ). handed.frame / n < length w.nodes) terms.frames (omega (arith, at.0, count)) in
+    let here : slice_get w.homes w.guest ≡ Some packet.cell = ap (λ (n : ℕ). slice_get w.homes n) (sym to) ∙ ap (λ (l : List ℕ). slice_get l line.to) (sym terms.homes) ∙ home-found line.terms.homes line.to packet.cell fits.home in
+    record {
+      full = fits.full;
+      within = frame-below handed.frame w.frames (handed.frame / w.frames) (length w.nodes) some refl below;
+      home = ap (λ (n : ℕ). slice_index w.nodes (handed.frame / n)) (sym terms.frames) ∙ ap (λ (l : List ℕ). slice_index l (handed.frame / line.terms.frames)) (sym terms.cells) ∙ at.1 ∙ same-some _ _ (sym here ∙ own);
+    }
+
+-- a packet that is taken from a wire fits into the guest's hand
+pub fits-hand : (wires : Made) (w : Surroundings) (passes new : PassList) (packet : WirePacket) → IsWired wires passes w → 0 < w.frames → TakesNext passes packet new → FitsHand w (packet_of packet)
+fits-hand wires w passes new packet wired some next =
+    let x = next.takes in
+    let fits = x.taken.1 in
+    let stood : taking_from passes next.from ≡ Some x.before = sym (next.vain.takes next.from) ∙ x.was in
+    let line = line-is wires next.from passes.guest.0 x.before.wire (sym (ap taking_wire stood) ∙ wired.list.takes next.from) in
+    record {
+      few = fits.few;
+      whole = λ handed is. handed-home w x.before.wire.line (packet_of packet) handed (subst (λ (l : Line). AreTermsOf w l.terms) (sym line) wired.terms) wired.at_home (ap (λ (l : Line). l.to) line ∙ wired.number) some (fits.whole handed is);
+    }

@@ -1,5 +1,5 @@
 -- What an entry leaves of what the type of a guest keeps.
-use Rattle.std.proofs.Common.{◌≡◌, inl, ℕ, zero, suc, ◌<◌, ◌≤◌, if◌then◌else◌, Bool, true, false, List, [], ◌∷◌, ◌++◌, Option, Some, None, option_map, length, map, get_or, set, refl, sym, ap, ◌∙◌, subst, arith}
+use Rattle.std.proofs.Common.{◌≡◌, inl, inr, ℕ, zero, suc, ◌<◌, ◌≤◌, if◌then◌else◌, Bool, true, false, List, [], ◌∷◌, ◌++◌, Option, Some, None, option_map, length, map, get_or, set, refl, sym, ap, ◌∙◌, subst, arith}
 use Rattle.std.specs.Prelude.{All}
 use Rattle.std.proofs.lemmas.List.{append-nil}
 use Rattle.std.proofs.lemmas.List.Elements.{All-nil, All-cons}
@@ -26,13 +26,13 @@ use Rattle.isolation_law.specs.LoadRows.{Loads, Unloads, Acks}
 use Rattle.isolation_law.specs.LoadsIn.{loaded_after}
 use Rattle.isolation_law.specs.MachineEvent.{Row}
 use Rattle.isolation_law.specs.MoveRows.{Begins, Finishes}
-use Rattle.isolation_law.specs.PacketRows.{Receives}
+use Rattle.isolation_law.specs.PacketRows.{EndsDelivery, Receives}
 use Rattle.isolation_law.specs.Parts.{Wish}
 use Rattle.isolation_law.specs.Policy.{chosen, due_after}
 use Rattle.isolation_law.specs.RefillRow.{Refills}
 use Rattle.isolation_law.specs.SkipRow.{Skips}
 use Rattle.isolation_law.specs.Start.{Boot, start as started}
-use Rattle.isolation_law.specs.StepRows.{Steps, Emulates, act_done}
+use Rattle.isolation_law.specs.StepRows.{Steps, Emulates, EndsRead, act_done}
 use Rattle.guest_core.specs.GuestView.{loaded_count, entries_due}
 use Rattle.guest_core.specs.Kept.{Kept}
 use Rattle.guest_core.specs.EntryNotes.{note_of_entry, IsAnswer}
@@ -121,6 +121,9 @@ refill-due w m s t p row = omega (arith, as-many w s t (Refill p) row (λ r. ref
 pub emulate-due : RowLaws → MoveLaws → (s t : GuestState) (p : ProcId) (v : VcpuId) → Emulates s p.0 v.0 t → entries_due t ≡ entries_due s
 emulate-due w m s t p v row = omega (arith, as-many w s t (Emulate p v) (inl row) (λ r. refl), m.emulates s t p.0 v.0 row)
 
+pub read-due : RowLaws → MoveLaws → (s t : GuestState) (p : ProcId) (v : VcpuId) → EndsRead s p.0 v.0 t → suc (entries_due t) ≡ entries_due s
+read-due w m s t p v row = omega (arith, as-many w s t (Emulate p v) (inr row) (λ r. refl), m.ends_read s t p.0 v.0 row)
+
 pub begin-due : RowLaws → MoveLaws → (s t : GuestState) (q : Ppn) (kind : MoveKind) (node : NodeId) (by : By) → Begins s q.0 kind node.0 by t → entries_due t ≡ suc (entries_due s)
 begin-due w m s t q kind node by row = omega (arith, as-many w s t (Begin q kind node by) row (λ r. refl), m.begins s t q.0 kind node.0 by row)
 
@@ -132,6 +135,9 @@ finish-due w m s t q row = omega (arith, as-many w s t (Finish q) (inl row) (λ 
 
 pub receive-due : RowLaws → MoveLaws → (s t : GuestState) (k : ℕ) → Receives s k t → entries_due t ≡ entries_due s
 receive-due w m s t k row = omega (arith, as-many w s t (PacketIn k) (inl row) (λ r. refl), m.receives s t k row)
+
+pub ended-due : RowLaws → MoveLaws → (s t : GuestState) (k : ℕ) → EndsDelivery s k t → suc (entries_due t) ≡ entries_due s
+ended-due w m s t k row = omega (arith, as-many w s t (PacketIn k) (inr row) (λ r. refl), m.ends_delivery s t k row)
 
 pub skip-due : RowLaws → MoveLaws → (s t : GuestState) (k : ℕ) → Skips s k t → entries_due t ≡ entries_due s
 skip-due w m s t k row = omega (arith, as-many w s t (Skip k) row (λ r. refl), m.skips s t k row)

@@ -37,14 +37,18 @@ use Rattle.wire_queue.specs.declared.lists.PassList.{PassList}
 use Rattle.guest_course.specs.declared.course.Course.{Course}
 use Rattle.guest_course.specs.CourseRules.{IsSound}
 use Rattle.guest_course.specs.CourseView.{state_of}
-use Rattle.guest_core.specs.GuestView.{entries_due}
+use Rattle.guest_core.specs.EntryNotes.{note_of_entry}
+use Rattle.guest_core.specs.GuestView.{entries_due, room_of}
 use Rattle.guest_core.specs.Holding.{is_copy, IsHolding, HoldsCopies, HasFrames}
 use Rattle.guest_core.specs.Kept.{Kept, IsKept}
-use Rattle.guest_core.specs.Laws.{RowLaws, TakeLaws}
+use Rattle.guest_core.specs.Laws.{MoveLaws, RowLaws, RunLaws, TakeLaws}
 use Rattle.guest_core.specs.Using.{AreUses, CountsCopies, IsShapeOf, frame_of, loaded_cells, rows_of}
 use Rattle.guest_core.specs.Wiring.{Posted}
 use Rattle.guest_core.specs.declared.parts.Parts.{Parts}
+use Rattle.guest_core.proofs.GainLemmas.{held-now, used-now, holding-now, uses-now}
 use Rattle.guest_core.proofs.HoldingLemmas.{nothing-held}
+use Rattle.guest_core.proofs.KeptProofs.{begin-due, kept-none}
+use Rattle.guest_core.proofs.RoomLemmas.{two-entries}
 use Rattle.guest_core.proofs.LoadedCells.{cells-same}
 use Rattle.guest_core.proofs.UsingProofs.{frames-counted, recounted}
 use Rattle.guest_core.proofs.WiringProofs.{posted-same, quiet-one}
@@ -81,6 +85,29 @@ counts-dropped s t less uses ex around long loaded u = record {
       (ap (λ (w : Surroundings). loaded_cells w 0 t.processors) around ∙ cells-same s.around 0 s.processors t.processors long loaded) u.counts;
 }
 
+none-some : {A : Type 0} (a : A) → None ≡ Some a → ⊥
+none-some a is = cc
+
+-- ---- rows of moves take and send nothing
+
+pub posted-ack : RowLaws → TakeLaws → (s t : GuestState) (journal : List Event) (passes : PassList) (p : ProcId) (q : Ppn) → Posted s journal passes → Acks s p.0 q.0 t → Posted t (journal ++ Ack p q ∷ []) passes
+posted-ack w x s t journal passes p q posted row =
+    posted-same x s t journal (Ack p q ∷ []) passes posted
+    (record { received = ap (λ (g : GuestState). g.received) row.after; discarded = ap (λ (g : GuestState). g.discarded) row.after; hand = ap (λ (g : GuestState). g.hand) row.after })
+    (ap (λ (g : GuestState). g.devices.sent) row.after) (ap (λ (g : GuestState). g.sent_from) row.after) (w.around s t (Ack p q) row) (quiet-one s (Ack p q) refl (λ g. tt))
+
+pub posted-finish : RowLaws → TakeLaws → (s t : GuestState) (journal : List Event) (passes : PassList) (q : Ppn) → Posted s journal passes → Finishes s q.0 t → Posted t (journal ++ Finish q ∷ []) passes
+posted-finish w x s t journal passes q posted row =
+    posted-same x s t journal (Finish q ∷ []) passes posted
+    (record { received = ap (λ (g : GuestState). g.received) row.after; discarded = ap (λ (g : GuestState). g.discarded) row.after; hand = ap (λ (g : GuestState). g.hand) row.after })
+    (ap (λ (g : GuestState). g.devices.sent) row.after) (ap (λ (g : GuestState). g.sent_from) row.after) (w.around s t (Finish q) (inl row)) (quiet-one s (Finish q) refl (λ g. tt))
+
+pub posted-begin : RowLaws → TakeLaws → (s t : GuestState) (journal : List Event) (passes : PassList) (q : Ppn) (kind : MoveKind) (node : NodeId) (by : By) → Posted s journal passes → Begins s q.0 kind node.0 by t → Posted t (journal ++ Begin q kind node by ∷ []) passes
+posted-begin w x s t journal passes q kind node by posted row =
+    posted-same x s t journal (Begin q kind node by ∷ []) passes posted
+    (record { received = ap (λ (g : GuestState). g.received) row.after; discarded = ap (λ (g : GuestState). g.discarded) row.after; hand = ap (λ (g : GuestState). g.hand) row.after })
+    (ap (λ (g : GuestState). g.devices.sent) row.after) (ap (λ (g : GuestState). g.sent_from) row.after) (w.around s t (Begin q kind node by) row) (quiet-one s (Begin q kind node by) refl (λ g. tt))
+
 -- ---- what is kept after an entry of which no note is made
 
 pub record Made (g : Parts) (e : Event) (d : Course) (holder : Holding) (uses : UsesState) (journal : JournalView) : Type 0 where
@@ -109,6 +136,29 @@ kept-made g e d holder uses journal k m = record {
   posted = subst (λ (l : List Event). Posted (state_of d) l g.wiring.passes) (sym m.entries) m.posted;
 }
 
+-- the begin of a move, with the frames that it takes: the holder has them and the counters count them beside the guest's own
+pub begun-made : RowLaws → RunLaws → MoveLaws → TakeLaws → (g : Parts) (d : Course) (holder : Holding) (uses : UsesState) (journal : JournalView) (q : Ppn) (kind : MoveKind) (home : NodeId) (by : By) (more : List Copy)
+    → IsKept g → 2 ≤ room_of g.journal.room g.course → IsSound d → GoesOn (state_of d) → (row : Begins (state_of g.course) q.0 kind home.0 by (state_of d))
+    → Exchanged (state_of g.course) (state_of d) more [] → UseChanged (state_of g.course) (state_of d) more []
+    → HoldsCopies (state_of g.course).around (more ++ held (state_of g.course)) holder.view → CountsCopies (state_of g.course) (more ++ used_frames (state_of g.course)) uses
+    → note_of_entry 0 (state_of d).skips (Begin q kind home by) ≡ [] → journal.entries ≡ g.journal.entries ++ Begin q kind home by ∷ [] → g.journal.room ≤ journal.room + 1
+    → Made g (Begin q kind home by) d holder uses journal
+begun-made w r v x g d holder uses journal q kind home by more k had sound on row ex used holds counts quiet entries room =
+    let s = state_of g.course in
+    let t = state_of d in
+    let e : Event = Begin q kind home by in
+    let around = w.around s t e row in
+    record {
+      sound = sound;
+      kept = kept-none w r g.start s t g.journal.entries g.seat.notes e k.kept row quiet;
+      goes_on = λ is. on;
+      frames = record { holding = holding-now s.around t (more ++ held s) holder.view (held-now s t more ex) around holds; given_back = λ end is. absurd (none-some end (sym on.not_ended ∙ is)) };
+      used = uses-now s t (more ++ used_frames s) uses (used-now s t more used) around (ap (λ (y : GuestState). y.processors) row.after) counts;
+      owed = omega (arith, begin-due w v s t q kind home by row, two-entries _ _ _ had, room);
+      posted = posted-begin w x s t g.journal.entries g.wiring.passes q kind home by k.posted row;
+      entries = entries;
+    }
+
 -- the course has another form, of which all is told that is told of the old one
 pub kept-again : (g : Parts) (d : Course) → IsKept g → IsSound d → state_of d ≡ state_of g.course → IsKept (record g { course = d })
 kept-again g d k sound same = record {
@@ -126,30 +176,7 @@ kept-again g d k sound same = record {
   posted = subst (λ (s : GuestState). Posted s g.journal.entries g.wiring.passes) (sym same) k.posted;
 }
 
--- ---- rows of moves take and send nothing
-
-pub posted-ack : RowLaws → TakeLaws → (s t : GuestState) (journal : List Event) (passes : PassList) (p : ProcId) (q : Ppn) → Posted s journal passes → Acks s p.0 q.0 t → Posted t (journal ++ Ack p q ∷ []) passes
-posted-ack w x s t journal passes p q posted row =
-    posted-same x s t journal (Ack p q ∷ []) passes posted
-    (record { received = ap (λ (g : GuestState). g.received) row.after; discarded = ap (λ (g : GuestState). g.discarded) row.after; hand = ap (λ (g : GuestState). g.hand) row.after })
-    (ap (λ (g : GuestState). g.devices.sent) row.after) (ap (λ (g : GuestState). g.sent_from) row.after) (w.around s t (Ack p q) row) (quiet-one s (Ack p q) refl (λ g. tt))
-
-pub posted-finish : RowLaws → TakeLaws → (s t : GuestState) (journal : List Event) (passes : PassList) (q : Ppn) → Posted s journal passes → Finishes s q.0 t → Posted t (journal ++ Finish q ∷ []) passes
-posted-finish w x s t journal passes q posted row =
-    posted-same x s t journal (Finish q ∷ []) passes posted
-    (record { received = ap (λ (g : GuestState). g.received) row.after; discarded = ap (λ (g : GuestState). g.discarded) row.after; hand = ap (λ (g : GuestState). g.hand) row.after })
-    (ap (λ (g : GuestState). g.devices.sent) row.after) (ap (λ (g : GuestState). g.sent_from) row.after) (w.around s t (Finish q) (inl row)) (quiet-one s (Finish q) refl (λ g. tt))
-
-pub posted-begin : RowLaws → TakeLaws → (s t : GuestState) (journal : List Event) (passes : PassList) (q : Ppn) (kind : MoveKind) (node : NodeId) (by : By) → Posted s journal passes → Begins s q.0 kind node.0 by t → Posted t (journal ++ Begin q kind node by ∷ []) passes
-posted-begin w x s t journal passes q kind node by posted row =
-    posted-same x s t journal (Begin q kind node by ∷ []) passes posted
-    (record { received = ap (λ (g : GuestState). g.received) row.after; discarded = ap (λ (g : GuestState). g.discarded) row.after; hand = ap (λ (g : GuestState). g.hand) row.after })
-    (ap (λ (g : GuestState). g.devices.sent) row.after) (ap (λ (g : GuestState). g.sent_from) row.after) (w.around s t (Begin q kind node by) row) (quiet-one s (Begin q kind node by) refl (λ g. tt))
-
 -- ---- a move that is open
-
-none-some : {A : Type 0} (a : A) → None ≡ Some a → ⊥
-none-some a is = cc
 
 same-some : {A : Type 0} (a b : A) → Some a ≡ Some b → a ≡ b
 same-some a b is = ap (λ x. unwrap_or x a) is

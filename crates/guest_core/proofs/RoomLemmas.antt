@@ -1,10 +1,10 @@
 -- The room that is left for a guest's calls.
 use Rattle.std.proofs.Common.{◌≡◌, ℕ, ◌+◌, ◌-◌, ◌*◌, ◌<◌, ◌≤◌, min, sym, subst, arith}
+use Rattle.std.specs.Global.{Vec}
 use Rattle.std.specs.Vec.{vec_len, vec_capacity}
 use Rattle.guest_course.specs.declared.course.Course.{Course}
 use Rattle.guest_course.specs.CourseView.{state_of}
 use Rattle.guest_core.specs.GuestView.{calls_room, entries_due, room_of}
-use Rattle.guest_core.specs.TurnParts.{UsesRoom}
 
 -- ---- what room there is
 
@@ -61,6 +61,10 @@ still size x y same = subst (λ z. size x ≤ size z) (sym same) (omega arith)
 one-at-most : {A : Type 0} (size : A → ℕ) (x y : A) → y ≡ x → size x ≤ size y + 1
 one-at-most size x y same = subst (λ z. size x ≤ size z + 1) (sym same) (omega arith)
 
+-- of a list that stays no place is used
+pub no-more : {A : Type 0} (x y : Vec A) → y ≡ x → vec_capacity x - vec_len x ≤ (vec_capacity y - vec_len y) + 1
+no-more x y same = one-at-most (λ v. vec_capacity v - vec_len v) x y same
+
 -- of each kind one place at most is used
 pub record UsesCall (c d : Course) : Type 0 where
   pub print_room : c.devs.print_room ≤ d.devs.print_room + 1
@@ -112,16 +116,4 @@ as-used c d k =
       received = one-at-most (λ v. vec_capacity v - vec_len v) _ _ k.received;
       begins = omega (arith, k.begins);
       skips = one-at-most (λ v. vec_capacity v - vec_len v) _ _ k.skips;
-    }
-
--- so does a step by the monitor's hand, or the move that it needs
-pub turn-uses : (c d : Course) → UsesRoom c d → UsesCall c d
-turn-uses c d u =
-    record {
-      print_room = u.print_room;
-      send_room = u.send_room;
-      cells = u.cells;
-      received = one-at-most (λ v. vec_capacity v - vec_len v) _ _ u.received;
-      begins = u.begins;
-      skips = one-at-most (λ v. vec_capacity v - vec_len v) _ _ u.skips;
     }

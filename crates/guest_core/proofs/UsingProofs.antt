@@ -27,6 +27,7 @@ use Rattle.isolation_law.specs.MachineEvent.{Row}
 use Rattle.isolation_law.specs.PacketRows.{ComesToHand}
 use Rattle.isolation_law.specs.Parts.{Processor}
 use Rattle.isolation_law.specs.Start.{Boot, pages_at_start, start as started}
+use Rattle.private_machine.specs.PageMove.{used_for}
 use Rattle.isolation_law.specs.Surroundings.{Surroundings}
 use Rattle.guest_course.specs.BootCalls.{found_of}
 use Rattle.guest_core.specs.Using.{AreUses, IsShapeOf, frame_of, loaded_cells, rows_of}
@@ -97,15 +98,15 @@ uses-unload s t p v old new law long lt there ex row u =
       counts = recounted u.shape less (rows_of m) new (as-many-frames s m same u.shape) refl (law u.shape (rows_of s) _ u.counts leaves);
     })
 
-pub uses-end : (s t : GuestState) (end : End) (uses : UsesState) → ((shape : Shape) (rows : Rows) (uses : UsesState) → AreCounts shape rows uses → AreCounts shape (record rows { frames = [] }) (without_frames uses))
-    → Ends s end t → AreUses s uses → AreUses t (without_frames uses)
-uses-end s t end uses law row u =
-    subst (λ (g : GuestState). AreUses g (without_frames uses)) (sym row.after) (record {
+pub uses-end : (s t : GuestState) (uses : UsesState) → ((shape : Shape) (rows : Rows) (uses : UsesState) → AreCounts shape rows uses → AreCounts shape (record rows { frames = [] }) (without_frames uses))
+    → t.around ≡ s.around → t.processors ≡ s.processors → t.pages ≡ [] → t.spares ≡ [] → AreUses s uses → AreUses t (without_frames uses)
+uses-end s t uses law around processors pages spares u =
+    record {
       shape = u.shape;
-      told = u.told;
+      told = subst (λ (w : Surroundings). IsShapeOf w u.shape) (sym around) u.told;
       cells = length-map uses.counts _ ∙ u.cells;
-      counts = law u.shape (rows_of s) uses u.counts;
-    })
+      counts = subst (λ (r : Rows). AreCounts u.shape r (without_frames uses)) (sym (λ i. record { frames = map frame_of (flat_map used_for (pages i) ++ spares i); loaded = loaded_cells (around i) 0 (processors i) })) (law u.shape (rows_of s) uses u.counts);
+    }
 
 -- ---- at the start
 

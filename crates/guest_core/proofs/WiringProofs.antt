@@ -4,19 +4,14 @@ use Rattle.std.proofs.lemmas.List.{append-nil, map-append, length-map}
 use Rattle.std.proofs.lemmas.List.Elements.{All-nil, All-cons, All-append, filter-append}
 use Rattle.std.proofs.lemmas.Bool.{eqb-true, eqb-false}
 use Rattle.base_words.specs.declared.events.Event.{Event}
-use Rattle.base_words.specs.declared.events.Event.TheVariants.{Emulate, PacketIn, End as Ending}
-use Rattle.base_words.specs.declared.events.End.{End}
-use Rattle.base_words.specs.declared.events.End.TheVariants.{Halted as ByHalt}
-use Rattle.base_words.specs.declared.ids.ProcId.{ProcId}
-use Rattle.base_words.specs.declared.ids.VcpuId.{VcpuId}
+use Rattle.base_words.specs.declared.events.Event.TheVariants.{PacketIn}
 use Rattle.private_machine.specs.Operation.{Packet}
 use Rattle.private_machine.specs.Packet.{came_into}
 use Rattle.private_machine.specs.PrivateMachine.{PrivateMachine}
 use Rattle.isolation_law.specs.Content.{content}
 use Rattle.isolation_law.specs.GuestState.{GuestState}
-use Rattle.isolation_law.specs.EndRows.{Ends}
 use Rattle.isolation_law.specs.LoadRows.{Loads, Unloads}
-use Rattle.isolation_law.specs.PacketRows.{ComesToHand, Receives}
+use Rattle.isolation_law.specs.PacketRows.{ComesToHand, EndsDelivery, Receives}
 use Rattle.isolation_law.specs.Start.{Boot, start as started}
 use Rattle.isolation_law.specs.WireHistory.{packets_to, sent_to, AreAccepted, taken_by, taken, is_from, taken_from, Tells, TakesNothing}
 use Rattle.isolation_law.specs.Surroundings.{Surroundings}
@@ -32,11 +27,13 @@ use Rattle.wire_queue.specs.declared.lists.PassList.{PassList}
 use Rattle.wire_queue.specs.declared.packet.WirePacket.{WirePacket}
 use Rattle.wire_queue.specs.declared.wires.Sent.{Sent}
 use Rattle.wire_queue.specs.declared.wires.Sent.TheVariants as answers
-use Rattle.guest_course.specs.CourseView.{hand_of}
+use Rattle.std.specs.Global.{Vec}
+use Rattle.guest_course.specs.CourseView.{got_of, hand_of, state_of}
+use Rattle.guest_course.specs.Packets.{SamePackets}
+use Rattle.guest_course.specs.declared.course.Course.{Course}
+use Rattle.guest_course.specs.declared.got.GotPacket.{GotPacket}
 use Rattle.guest_course.specs.declared.posting.Outgoing.{Outgoing}
-use Rattle.guest_course.specs.Posting.{IsOther, put_on, Goes}
-use Rattle.guest_core.specs.GuestCalls.{step_entries}
-use Rattle.guest_core.specs.TurnParts.{Posts, Concludes}
+use Rattle.guest_course.specs.Posting.{AreTermsOf, IsOther, put_on, Goes}
 use Rattle.guest_core.specs.Wiring.{shown, taken_at, IsWired, Posted, SentOn, TakesNext}
 use Rattle.guest_core.specs.Laws.{SendLaws, TakeLaws}
 
@@ -135,6 +132,33 @@ takes-same : (passes new : PassList) (out : Option Outgoing) (from : ℕ) → Se
 takes-same passes new None from on = on.takes from
 takes-same passes new (Some out) from on = on.1.only.takes from
 
+-- what a guest's parts keep of packets, its state keeps
+pub takes-none : (c d : Course) → SamePackets c d → TakesNothing (state_of c) (state_of d)
+takes-none c d same = record {
+  received = ap (λ (l : Vec GotPacket). map got_of l.items) same.received;
+  discarded = ap (λ (l : Vec GotPacket). map got_of l.items) same.discarded;
+  hand = ap (option_map hand_of) same.hand;
+}
+
+pub packets-then : (c d e : Course) → SamePackets c d → SamePackets d e → SamePackets c e
+packets-then c d e x y = record { sent = y.sent ∙ x.sent; received = y.received ∙ x.received; discarded = y.discarded ∙ x.discarded; hand = y.hand ∙ x.hand }
+
+-- to each other guest was sent just what goes on its wire, and nothing was taken
+pub record Posts (s : GuestState) (out : Option Outgoing) (t : GuestState) : Type 0 where
+  pub sends : (to : ℕ) → IsOther s to → sent_to t to ≡ sent_to s to ++ put_on out to
+  pub received : t.received ≡ s.received
+  pub discarded : t.discarded ≡ s.discarded
+  pub hand : t.hand ≡ s.hand
+
+-- so it is where nothing goes out and nothing was sent
+pub posts-none : (s t : GuestState) → TakesNothing s t → t.devices.sent ≡ s.devices.sent → t.sent_from ≡ s.sent_from → t.around ≡ s.around → Posts s None t
+posts-none s t same sent cells around = record {
+  sends = λ to other. (λ i. packets_to (around i).guest to (sent i) (cells i)) ∙ sym (append-nil (sent_to s to));
+  received = same.received;
+  discarded = same.discarded;
+  hand = same.hand;
+}
+
 pub posted-out : SendLaws → TakeLaws → (wires : Made) (s t : GuestState) (journal more : List Event) (passes new : PassList) (out : Option Outgoing) → IsWired wires passes s.around → Posted s journal passes
     → Posts s out t → AreQuiet s more → SentOn passes out new → Posted t (journal ++ more) new
 posted-out v w wires s t journal more passes new out wired p posts quiet on =
@@ -211,14 +235,21 @@ posted-received w s t journal k passes p row =
       taken = λ from. p.taken from ∙ ap (filter (is_from from)) (sym (w.received s t journal k p.tells row));
     }
 
+pub posted-ended : TakeLaws → (s t : GuestState) (journal : List Event) (k : ℕ) (passes : PassList) → Posted s journal passes → EndsDelivery s k t → Posted t (journal ++ PacketIn k ∷ []) passes
+posted-ended w s t journal k passes p row =
+    let around = ap (λ (x : GuestState). x.around) row.after in
+    let sent : t.devices.sent ≡ s.devices.sent = ap (λ (x : GuestState). x.devices.sent) row.after ∙ came-sent (content s) row.packet.from row.packet.bytes s.devices.armed in
+    let cells = ap (λ (x : GuestState). x.sent_from) row.after in
+    record {
+      tells = w.tells_ended s t journal k p.tells row;
+      sent = λ to end is. subst (λ (l : List Packet). AreAccepted 0 l (map shown end.accepted)) (sym (λ i. packets_to (around i).guest to (sent i) (cells i))) (p.sent to end is);
+      taken = λ from. p.taken from ∙ ap (filter (is_from from)) (sym (w.ended s t journal k p.tells row));
+    }
+
 -- ---- single entries
 
 pub quiet-one : (s : GuestState) (e : Event) → taken_by s.received s.discarded e ≡ [] → ((t : GuestState) → Tells t e) → AreQuiet s (e ∷ [])
 quiet-one s e none tells = record { none = ap (λ l. l ++ []) none; tell = λ t. All-cons (Tells t) e [] (tells t) (All-nil (Tells t)) }
-
-pub quiet-step : (s : GuestState) (p : ProcId) (v : VcpuId) (halted : Bool) → AreQuiet s (step_entries p v halted)
-quiet-step s p v false = quiet-one s (Emulate p v) refl (λ t. tt)
-quiet-step s p v true = record { none = refl; tell = λ t. All-cons (Tells t) (Emulate p v) (Ending ByHalt ∷ []) tt (All-cons (Tells t) (Ending ByHalt) [] tt (All-nil (Tells t))) }
 
 -- a load, an unload and an end send and take nothing
 pub quiet-load : (s t : GuestState) (p v : ℕ) → Loads s p v t → TakesNothing s t
@@ -227,24 +258,14 @@ quiet-load s t p v row = record { received = ap (λ (x : GuestState). x.received
 pub quiet-unload : (s t : GuestState) (p : ℕ) → Unloads s p t → TakesNothing s t
 quiet-unload s t p row = record { received = ap (λ (x : GuestState). x.received) row.after; discarded = ap (λ (x : GuestState). x.discarded) row.after; hand = ap (λ (x : GuestState). x.hand) row.after }
 
-pub quiet-end : (s t : GuestState) (end : End) → Ends s end t → TakesNothing s t
-quiet-end s t end row = record { received = ap (λ (x : GuestState). x.received) row.after; discarded = ap (λ (x : GuestState). x.discarded) row.after; hand = ap (λ (x : GuestState). x.hand) row.after }
-
--- an end after a step sends and takes nothing
-pub posts-concluded : (halted : Bool) (s m t : GuestState) (out : Option Outgoing) → Posts s out m → Concludes halted m t → Posts s out t
-posts-concluded false s m t out posts is = subst (Posts s out) (sym is) posts
-posts-concluded true s m t out posts is =
-    let same = quiet-end m t ByHalt is in
-    let number = ap (λ (x : GuestState). x.around.guest) is.after in
-    let sent = ap (λ (x : GuestState). x.devices.sent) is.after in
-    let cells = ap (λ (x : GuestState). x.sent_from) is.after in
-    record {
-      sends = λ to other. (λ i. packets_to (number i) to (sent i) (cells i)) ∙ posts.sends to other;
-      goes = posts.goes;
-      received = same.received ∙ posts.received;
-      discarded = same.discarded ∙ posts.discarded;
-      hand = same.hand ∙ posts.hand;
-    }
+-- what comes after it sends and takes nothing
+pub posts-then : (s m t : GuestState) (out : Option Outgoing) → Posts s out m → TakesNothing m t → t.devices.sent ≡ m.devices.sent → t.sent_from ≡ m.sent_from → t.around ≡ m.around → Posts s out t
+posts-then s m t out posts same sent cells around = record {
+  sends = λ to other. (λ i. packets_to (around i).guest to (sent i) (cells i)) ∙ posts.sends to other;
+  received = same.received ∙ posts.received;
+  discarded = same.discarded ∙ posts.discarded;
+  hand = same.hand ∙ posts.hand;
+}
 
 -- ---- what goes out fits on its wire
 
@@ -255,9 +276,9 @@ sent-guest passes new (Some out) on = on.1.only.guest
 pub same-ends : (passes : PassList) → SentOn passes None passes
 same-ends passes = record { guest = refl; asks = refl; sends = λ to. refl; takes = λ from. refl }
 
-pub fits-out : (wires : Made) (passes : PassList) (s : GuestState) (out : Option Outgoing) → IfSome out (Goes s) → passes.guest.0 ≡ s.around.guest → IfSome out (λ o. Fits (line_between wires passes.guest.0 o.to.0) (packet_of o.packet))
-fits-out wires passes s None goes same = tt
-fits-out wires passes s (Some out) goes same = goes.fits (line_between wires passes.guest.0 out.to.0) same
+pub fits-out : (wires : Made) (passes : PassList) (s : GuestState) (out : Option Outgoing) → IfSome out (Goes s) → passes.guest.0 ≡ s.around.guest → AreTermsOf s.around wires.terms → IfSome out (λ o. Fits (line_between wires passes.guest.0 o.to.0) (packet_of o.packet))
+fits-out wires passes s None goes same terms = tt
+fits-out wires passes s (Some out) goes same terms = goes.fits (line_between wires passes.guest.0 out.to.0) same refl terms
 
 pub there-out : (wires : Made) (passes : PassList) (s : GuestState) (out : Option Outgoing) → IsWired wires passes s.around → IfSome out (Goes s) → IfSome out (λ o. IsSome (sending_to passes o.to.0))
 there-out wires passes s None w goes = tt

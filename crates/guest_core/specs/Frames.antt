@@ -1,7 +1,8 @@
 -- How a guest's frames come and go beside its pages: a frame that is taken before a move begins, and those that are given back after one
 -- has ended.
-use Rattle.std.specs.Prelude.{◌≡◌, ℕ, ◌<◌, true, List, ◌∷◌, ◌++◌, length, None}
+use Rattle.std.specs.Prelude.{◌≡◌, ℕ, ◌<◌, true, List, ◌∷◌, ◌++◌, length, Some, None, slice_get}
 use Rattle.base_words.specs.declared.frame.Frame.{Frame}
+use Rattle.base_words.specs.declared.ids.NodeId.{NodeId}
 use Rattle.cell_depend.specs.Counters.{UsesState}
 use Rattle.frame_words.specs.declared.view.View.{View}
 use Rattle.node_frames.specs.declared.answers.FindFault.{FindFault}
@@ -17,7 +18,7 @@ use Rattle.isolation_law.specs.Holdings.{AllDifferent, nodes_of}
 use Rattle.isolation_law.specs.MoveRows.{Fits, IsForeign}
 use Rattle.isolation_law.specs.Parts.{Wish}
 use Rattle.guest_core.specs.Holding.{HoldsCopies, IsHolding}
-use Rattle.guest_core.specs.MoveCalls.{NodeShows}
+use Rattle.guest_core.specs.MoveCalls.{FindsFrame, NodesShow}
 use Rattle.guest_core.specs.Using.{CountsCopies}
 
 -- the frames of each page lie on different nodes
@@ -32,10 +33,15 @@ pub record ToGiveBack (s : GuestState) (freed : List ℕ) (view : View) (uses : 
   pub held_too : HoldsCopies s.around (held s ++ copies) view
   pub counted_too : CountsCopies s (used_frames s ++ copies) uses
 
--- a frame on a node was taken, which the guest didn't hold: the holder has it and the counters count it beside the guest's own
-pub record HasTaken (s : GuestState) (node : ℕ) (frame : Frame) (view : View) (uses : UsesState) : Type 0 where
+-- the first frame that could be had on these nodes was taken, which the guest didn't hold: the holder has it and the counters count it beside
+-- the guest's own
+pub record HasTaken (s : GuestState) (lends : List ℕ) (order : List NodeId) (frame : Frame) (old view : View) (uses : UsesState) : Type 0 where
+  pub finds : FindsFrame s.around lends order (copy_of frame) old view
   pub foreign : IsForeign s (copy_of frame)
-  pub lies : lies_on s.around.frames node (copy_of frame) ≡ true
+  pub place : ℕ
+  pub node : NodeId
+  pub ordered : slice_get order place ≡ Some node
+  pub lies : lies_on s.around.frames node.0 (copy_of frame) ≡ true
   pub held_too : HoldsCopies s.around (copy_of frame ∷ held s) view
   pub counted_too : CountsCopies s (copy_of frame ∷ used_frames s) uses
 
@@ -48,12 +54,17 @@ pub record HasTakenFor (s : GuestState) (wish : Wish) (change : Change) (view : 
   pub held_too : HoldsCopies s.around (gained change ++ held s) view
   pub counted_too : CountsCopies s (gained change ++ used_frames s) uses
 
+-- a frame that others may hold too is held once more: the holder has it and the counters count it beside the guest's own
+pub record HoldsToo (s : GuestState) (copy : Copy) (view : View) (uses : UsesState) : Type 0 where
+  pub held_too : HoldsCopies s.around (copy ∷ held s) view
+  pub counted_too : CountsCopies s (copy ∷ used_frames s) uses
+
 -- no frame was taken
 pub record TakesNone (s : GuestState) (view : View) (uses uses_after : UsesState) : Type 0 where
   pub holding : IsHolding s view
   pub uses_stay : uses_after ≡ uses
 
--- and why: the node showed it, or memory was wanting and nothing was looked at
-abbrev pub Refuses : GuestState → List ℕ → ℕ → ℕ → FindFault → View → View → Type 0
-Refuses s lends home node Memory old new = new ≡ old
-Refuses s lends home node (NoFrame shown) old new = NodeShows s.around lends home node shown old new
+-- and why: the nodes showed it, or memory was wanting and nothing was looked at
+abbrev pub Refuses : GuestState → List ℕ → ℕ → List NodeId → FindFault → View → View → Type 0
+Refuses s lends home order Memory old new = new ≡ old
+Refuses s lends home order (NoFrame shown) old new = NodesShow s.around lends home order shown old new

@@ -1,5 +1,5 @@
 -- What each call of a guest does, by its answer: which entries its journal gains, and which notes its seat and the token.
-use Rattle.std.specs.Prelude.{◌≡◌, ◌≢◌, ℕ, ◌<◌, ◌≤◌, ◌+◌, List, [], ◌∷◌, ◌++◌, length, map, Bool, true, false, if◌then◌else◌, Option, Some, None, unwrap_or, Result, Ok, Err}
+use Rattle.std.specs.Prelude.{◌≡◌, ◌≢◌, ◌⊎◌, ℕ, ◌<◌, ◌≤◌, ◌+◌, List, [], ◌∷◌, ◌++◌, length, map, Bool, true, false, if◌then◌else◌, Option, Some, None, IfSome, unwrap_or, Result, Ok, Err}
 use Rattle.std.specs.declared.alloc.AllocError.{AllocError}
 use Rattle.base_words.specs.declared.ids.ProcId.{ProcId}
 use Rattle.base_words.specs.declared.ids.VcpuId.{VcpuId}
@@ -11,17 +11,23 @@ use Rattle.base_words.specs.declared.trap.Access.{Access}
 use Rattle.shootdown.specs.declared.notes.Note.{Note}
 use Rattle.shootdown.specs.declared.notes.Note.TheVariants.{Made, Halted, Ended}
 use Rattle.shootdown.specs.Notes.{Token, sided}
-use Rattle.isolation_law.specs.GuestState.{processor, vcpu_of}
+use Rattle.frame_words.specs.declared.view.View.{View}
+use Rattle.private_machine.specs.Backing.{Page}
+use Rattle.isolation_law.specs.GuestState.{GuestState, processor, vcpu_of}
+use Rattle.isolation_law.specs.MachineEvent.{Row}
 use Rattle.isolation_law.specs.Phases.{all_halted}
 use Rattle.isolation_law.specs.StepAct.{at_hand}
 use Rattle.isolation_law.specs.WireHistory.{sent_to}
+use Rattle.wire_queue.specs.Packets.{packet_of}
 use Rattle.guest_course.specs.declared.posting.Outgoing.{Outgoing}
-use Rattle.guest_course.specs.Posting.{IsOther, put_on}
+use Rattle.guest_course.specs.EndCalls.{letting_go}
+use Rattle.guest_course.specs.Posting.{IsOther, put_on, sent_handed}
 use Rattle.guest_course.specs.StepCalls.{StepsDirect}
 use Rattle.guest_course.specs.Wanting.{TakesMemory}
-use Rattle.guest_core.specs.GuestView.{Monitored, IsSameGuest}
+use Rattle.guest_core.specs.GuestView.{Monitored, IsSameGuest, Shared}
 use Rattle.guest_core.specs.Making.{Makes, MakesAlone, Rests}
-use Rattle.guest_core.specs.MoveCalls.{IsAtRest, ReadsFree, Acknowledges, FinishesLowest, WaitsForMove, BeginsForStep}
+use Rattle.guest_core.specs.MoveCalls.{IsAtRest, Acknowledges, FinishesLowest, LetsGoOfPage, WaitsForMove}
+use Rattle.guest_core.specs.Sharing.{BeginsForStep, Copies, SendsPlain, UsesFree}
 use Rattle.guest_core.specs.Wiring.{SentOn}
 use Rattle.guest_core.specs.declared.answers.Loaded.{Loaded}
 use Rattle.guest_core.specs.declared.answers.Loaded.TheVariants as loaded
@@ -45,10 +51,11 @@ pub record MayCall (g : Monitored) (token : Token) : Type 0 where
   pub notes : MayNote g token
   pub before : g.state.end ≢ Some Budget
 
--- this was told, the guest is the same one, and the room of one call is used at most
+-- this was told, the guest is the same one, a packet in hand hands on what it did, and the room of one call is used at most
 pub record Leaves (old : Monitored) (token : Token) (told : List Note) (new : Monitored) (token_after : Token) : Type 0 where
   pub learns : Learns old token told new token_after
   pub same : IsSameGuest old new
+  pub handed : new.handed ≡ old.handed
   pub room : old.room ≤ new.room + 2
 
 -- the processor of a token, and the virtual processor that is loaded there
@@ -87,26 +94,37 @@ pub record TurnsDirect (old : Monitored) (p : ProcId) (v : VcpuId) (access : Acc
   pub makes : MakesAlone old (Direct p v ∷ []) new
   pub direct : StepsDirect old.state p.0 v.0 new.state access
 
--- the entries of a step by the monitor's hand: the step, and the end where it halted the last virtual processor
-abbrev pub step_entries : ProcId → VcpuId → Bool → List Event
-step_entries p v true = Emulate p v ∷ Ending ByHalt ∷ []
-step_entries p v false = Emulate p v ∷ []
+-- the entries of a step by the monitor's hand: the step, and where it halted the last virtual processor the end, with the pages that are let
+-- go before it
+abbrev pub step_entries : ProcId → VcpuId → Bool → List Page → List Event
+step_entries p v true pages = Emulate p v ∷ (letting_go 0 pages ++ Ending ByHalt ∷ [])
+step_entries p v false pages = Emulate p v ∷ []
 
 abbrev pub end_of : Bool → Option End
 end_of halted = if halted then Some ByHalt else None
 
--- what was sent to other guests was put on their wires, of which a full one lost it
-pub record SendsOut (old new : Monitored) : Type 0 where
+-- what was sent to other guests was put on their wires, of which a full one lost it; with the frame of its page, where that is one that
+-- others may hold too, and the receiver may share it
+pub record SendsOut (old : Monitored) (v : ℕ) (new : Monitored) : Type 0 where
   pub out : Option Outgoing
+  pub whole : IfSome out (λ o. (packet_of o.packet).whole ≡ sent_handed old.state v o.to.0)
   pub sends : (to : ℕ) → IsOther old.state to → sent_to new.state to ≡ sent_to old.state to ++ put_on out to
   pub sent : SentOn old.passes out new.passes
 
-pub record TurnsEmulate (old : Monitored) (p : ProcId) (v : VcpuId) (new : Monitored) : Type 0 where
+-- what a step by the monitor's hand does with a page that it uses, between what the guest held before it and after it
+pub record UsesPage (shared : Shared) (disk : ℕ) (s : GuestState) (v : ℕ) (old new : View) : Type 0 where
+  pub free : UsesFree s v
+  pub copies : Copies shared disk s v old new
+  pub plain : SendsPlain shared s v old new
+
+pub record TurnsEmulate (shared : Shared) (old : Monitored) (p : ProcId) (v : VcpuId) (new : Monitored) : Type 0 where
   pub rest : IsAtRest old.state p.0
-  pub free : ReadsFree old.state v.0
-  pub makes : Makes old (step_entries p v (all_halted new.state.vcpus)) new
+  pub uses : UsesPage shared old.disk old.state v.0 old.view new.view
+  pub mid : GuestState
+  pub step : Row old.state (Emulate p v) mid
+  pub makes : Makes old (step_entries p v (all_halted new.state.vcpus) mid.pages) new
   pub end : new.state.end ≡ end_of (all_halted new.state.vcpus)
-  pub sends : SendsOut old new
+  pub sends : SendsOut old v.0 new
 
 -- the processor's TLB got a half
 pub record TurnsRefill (old : Monitored) (p : ProcId) (new : Monitored) : Type 0 where
@@ -120,26 +138,32 @@ pub record HasHalted (old : Monitored) (p v : ℕ) (new : Monitored) : Type 0 wh
   pub halted : (vcpu_of old.state v).halted ≡ true
   pub rests : Rests old new
 
--- no entry was made, and the step at hand takes memory
-pub record WantsMemory (old : Monitored) (v : ℕ) (new : Monitored) : Type 0 where
-  pub rests : Rests old new
+-- what was asked of frames of others before a step, and what they refused
+pub record AsksFrames (shared : Shared) (disk : ℕ) (s : GuestState) (v : ℕ) (old new : View) : Type 0 where
+  pub copies : Copies shared disk s v old new
+  pub plain : SendsPlain shared s v old new
+
+-- no entry was made, and the step at hand takes memory; all but such looks at frames is as it was
+pub record WantsMemory (shared : Shared) (old : Monitored) (v : ℕ) (new : Monitored) : Type 0 where
+  pub same : new ≡ record old { view = new.view; room = new.room }
+  pub looks : (new.view ≡ old.view) ⊎ AsksFrames shared old.disk old.state v old.view new.view
   pub takes : TakesMemory (at_hand old.state v)
 
-abbrev pub TurnAnswers : Monitored → ProcId → VcpuId → Monitored → Turn → Type 0
-TurnAnswers old p v new (turn.Stepped (Some access)) = TurnsDirect old p v access new
-TurnAnswers old p v new (turn.Stepped None) = TurnsEmulate old p v new
-TurnAnswers old p v new turn.Refilled = TurnsRefill old p new
-TurnAnswers old p v new (turn.Acked q) = Acknowledges old p q new
-TurnAnswers old p v new (turn.Begun q) = BeginsForStep old p v q new
-TurnAnswers old p v new (turn.Finished q) = FinishesLowest old p q new
-TurnAnswers old p v new (turn.Waits q waiting) = WaitsForMove old p v q waiting new
-TurnAnswers old p v new turn.VcpuHalted = HasHalted old p.0 v.0 new
-TurnAnswers old p v new (turn.GuestEnded end) = HasEnded old end new
+abbrev pub TurnAnswers : Shared → Monitored → ProcId → VcpuId → Monitored → Turn → Type 0
+TurnAnswers shared old p v new (turn.Stepped (Some access)) = TurnsDirect old p v access new
+TurnAnswers shared old p v new (turn.Stepped None) = TurnsEmulate shared old p v new
+TurnAnswers shared old p v new turn.Refilled = TurnsRefill old p new
+TurnAnswers shared old p v new (turn.Acked q) = Acknowledges old p q new
+TurnAnswers shared old p v new (turn.Begun q) = BeginsForStep shared old p v q new
+TurnAnswers shared old p v new (turn.Finished q) = FinishesLowest old p q new ⊎ LetsGoOfPage old p v q new
+TurnAnswers shared old p v new (turn.Waits q waiting) = WaitsForMove old p v q waiting new
+TurnAnswers shared old p v new turn.VcpuHalted = HasHalted old p.0 v.0 new
+TurnAnswers shared old p v new (turn.GuestEnded end) = HasEnded old end new
 
 -- a turn of the virtual processor that is loaded
-abbrev pub Turns : Monitored → ProcId → VcpuId → Monitored → Result Turn AllocError → Type 0
-Turns old p v new (Ok answer) = TurnAnswers old p v new answer
-Turns old p v new (Err e) = WantsMemory old v.0 new
+abbrev pub Turns : Shared → Monitored → ProcId → VcpuId → Monitored → Result Turn AllocError → Type 0
+Turns shared old p v new (Ok answer) = TurnAnswers shared old p v new answer
+Turns shared old p v new (Err e) = WantsMemory shared old v.0 new
 
 abbrev pub told_of_turn : ProcId → VcpuId → Result Turn AllocError → List Note
 told_of_turn p v (Ok (turn.Stepped (Some access))) = Made (Direct p v) ∷ []

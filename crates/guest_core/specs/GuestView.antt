@@ -1,28 +1,35 @@
 -- How contracts see a guest.
-use Rattle.std.specs.Prelude.{◌≡◌, ℕ, ◌+◌, ◌-◌, ◌*◌, min, List, [], Bool, count_by, is_some}
+use Rattle.std.specs.Prelude.{◌≡◌, ℕ, ◌+◌, ◌-◌, ◌*◌, min, List, [], Bool, Option, None, count_by, is_some}
 use Rattle.std.specs.Vec.{vec_len, vec_capacity}
 use Rattle.atomic_table.specs.Seated.{TableId}
 use Rattle.base_words.specs.declared.events.Event.{Event}
+use Rattle.cow_disk.specs.IndexView.{Index}
 use Rattle.frame_words.specs.Holders.{MadeTable}
 use Rattle.frame_words.specs.declared.view.View.{View}
 use Rattle.shootdown.specs.declared.view.SidedNote.{SidedNote}
 use Rattle.isolation_law.specs.GuestState.{GuestState}
 use Rattle.isolation_law.specs.Parts.{Processor}
 use Rattle.isolation_law.specs.Start.{Boot, start as started}
+use Rattle.isolation_law.specs.Surroundings.{home_cell}
 use Rattle.wire_queue.specs.Between.{Made}
+use Rattle.wire_queue.specs.Packets.{Handed}
 use Rattle.wire_queue.specs.declared.lists.PassList.{PassList}
 use Rattle.guest_course.specs.declared.course.Course.{Course}
 use Rattle.guest_course.specs.CourseView.{state_of}
+use Rattle.guest_course.specs.TakingCalls.{handed_in}
 use Rattle.pmap_table.specs.PageMap.{is_moving}
 use Rattle.guest_core.specs.declared.parts.Parts.{Parts}
 use Rattle.guest_core.specs.declared.resources.Resources.{Resources}
+use Rattle.guest_core.specs.Blocks.{blocks_of, LieOnCell}
 use Rattle.guest_core.specs.Holding.{FitsAround}
 
--- a guest: its number, what it was started from, the board that made its seat, the table that made its holder; its state, the journal
--- that led to it, its seat's notes, its holder's view; the wires of all guests and its ends of them; and the room that was made for its calls
+-- a guest: its number, what it was started from, which of the machine's disks it has, the board that made its seat, the table that made its
+-- holder; its state, the journal that led to it, its seat's notes, its holder's view; the wires of all guests and its ends of them, and the
+-- frame that the packet in hand hands on, if it does; and the room that was made for its calls
 pub record Monitored : Type 0 where
   pub number : ℕ
   pub start : Boot
+  pub disk : ℕ
   pub board : TableId
   pub table : TableId
   pub state : GuestState
@@ -31,6 +38,7 @@ pub record Monitored : Type 0 where
   pub view : View
   pub wires : Made
   pub passes : PassList
+  pub handed : Option Handed
   pub room : ℕ
 
 abbrev pub is_loaded : Processor → Bool
@@ -67,6 +75,7 @@ abbrev pub guest_of : Parts → Monitored
 guest_of g = record {
   number = g.number.0;
   start = g.start;
+  disk = g.disk;
   board = g.seat.board;
   table = g.holder.table;
   state = state_of g.course;
@@ -75,13 +84,15 @@ guest_of g = record {
   view = g.holder.view;
   wires = g.wiring.wires.value;
   passes = g.wiring.passes;
+  handed = handed_in g.course;
   room = room_of g.journal.room g.course;
 }
 
--- number, start, board, table and wires stay, and whose the ends of the wires are
+-- number, start, disk, board, table and wires stay, and whose the ends of the wires are
 pub record IsSameGuest (old new : Monitored) : Type 0 where
   pub number : new.number ≡ old.number
   pub start : new.start ≡ old.start
+  pub disk : new.disk ≡ old.disk
   pub board : new.board ≡ old.board
   pub table : new.table ≡ old.table
   pub wires : new.wires ≡ old.wires
@@ -92,24 +103,27 @@ pub record IsTableOf (table : MadeTable) (g : Monitored) : Type 0 where
   pub made : g.table ≡ table.id
   pub fits : FitsAround table g.start.around
 
--- what the guests of a machine share: the table of their frames, and the wires between them
+-- what the guests of a machine share: the table of their frames, the wires between them, and the blocks on each cell
 pub record Shared : Type 0 where
   pub table : MadeTable
   pub wires : Made
+  pub indexes : List Index
 
 -- as they are lent to the guests' calls
 abbrev pub shared_by : Resources → Shared
-shared_by resources = record { table = resources.table.now; wires = resources.wires.now }
+shared_by resources = record { table = resources.table.now; wires = resources.wires.now; indexes = resources.indexes.now }
 
--- they are those of a guest
+-- they are those of a guest: its table and its wires, and each block on its home cell lies there
 pub record AreOf (shared : Shared) (g : Monitored) : Type 0 where
   pub table : IsTableOf shared.table g
   pub wires : g.wires ≡ shared.wires
+  pub blocks : LieOnCell g.start.around (home_cell g.start.around) (blocks_of shared.indexes (home_cell g.start.around))
 
--- a guest at its start, without notes
-pub record IsAtStart (number : ℕ) (b : Boot) (board table : TableId) (wires : Made) (passes : PassList) (g : Monitored) : Type 0 where
+-- a guest at its start, without notes, and with no packet in hand
+pub record IsAtStart (number : ℕ) (b : Boot) (disk : ℕ) (board table : TableId) (wires : Made) (passes : PassList) (g : Monitored) : Type 0 where
   pub number_is : g.number ≡ number
   pub start_is : g.start ≡ b
+  pub disk_is : g.disk ≡ disk
   pub board_is : g.board ≡ board
   pub table_is : g.table ≡ table
   pub state_is : g.state ≡ started b
@@ -117,3 +131,4 @@ pub record IsAtStart (number : ℕ) (b : Boot) (board table : TableId) (wires : 
   pub no_notes : g.notes ≡ []
   pub wires_are : g.wires ≡ wires
   pub passes_are : g.passes ≡ passes
+  pub none_handed : g.handed ≡ None

@@ -7,7 +7,7 @@ use Rattle.base_words.specs.declared.moves.By.{By}
 use Rattle.base_words.specs.declared.moves.MoveKind.{MoveKind}
 use Rattle.private_machine.specs.Operation.{Packet}
 use Rattle.isolation_law.specs.CellFailure.{end_by, failure_of, is_failure, EndsAs}
-use Rattle.isolation_law.specs.EndRows.{Ends}
+use Rattle.isolation_law.specs.EndRows.{Ends, LetsGo}
 use Rattle.isolation_law.specs.EntryTells.{skip_of, AddsSkips}
 use Rattle.isolation_law.specs.GuestState.{GuestState, processor, vcpu_of, is_dead}
 use Rattle.isolation_law.specs.LiveCells.{UsesLive}
@@ -15,13 +15,13 @@ use Rattle.isolation_law.specs.LoadRows.{Loads, Unloads, Acks}
 use Rattle.isolation_law.specs.LoadsIn.{loaded_after}
 use Rattle.isolation_law.specs.MachineEvent.{Row}
 use Rattle.isolation_law.specs.MoveRows.{Begins, Finishes}
-use Rattle.isolation_law.specs.PacketRows.{ComesToHand, Receives}
+use Rattle.isolation_law.specs.PacketRows.{ComesToHand, EndsDelivery, Receives}
 use Rattle.isolation_law.specs.Phases.{GoesOn}
 use Rattle.isolation_law.specs.RefillRow.{Refills}
 use Rattle.isolation_law.specs.Run.{Run}
 use Rattle.isolation_law.specs.SkipRow.{Skips}
 use Rattle.isolation_law.specs.Start.{Boot, start}
-use Rattle.isolation_law.specs.StepRows.{Steps, Emulates}
+use Rattle.isolation_law.specs.StepRows.{Steps, Emulates, EndsRead}
 use Rattle.isolation_law.specs.Surroundings.{cell_of_processor}
 use Rattle.isolation_law.specs.WireHistory.{AreAccepted, taken_by, taken, Tells, TakesNothing}
 use Rattle.guest_core.specs.GuestView.{open_count}
@@ -55,10 +55,13 @@ pub record MoveLaws : Type 0 where
   pub refills : (s t : GuestState) (p : ℕ) → Refills s p t → open_count t ≡ open_count s
   pub emulates : (s t : GuestState) (p v : ℕ) → Emulates s p v t → open_count t ≡ open_count s
   pub begins : (s t : GuestState) (q : ℕ) (kind : MoveKind) (node : ℕ) (by : By) → Begins s q kind node by t → open_count t ≡ suc (open_count s)
+  pub ends_read : (s t : GuestState) (p v : ℕ) → EndsRead s p v t → suc (open_count t) ≡ open_count s
   pub acks : (s t : GuestState) (p q : ℕ) → Acks s p q t → open_count t ≡ open_count s
   pub finishes : (s t : GuestState) (q : ℕ) → Finishes s q t → suc (open_count t) ≡ open_count s
   pub comes_to_hand : (s t : GuestState) → ComesToHand s t → open_count t ≡ open_count s
+  pub lets_go : (s t : GuestState) (q : ℕ) → LetsGo s q t → suc (open_count t) ≡ open_count s
   pub receives : (s t : GuestState) (k : ℕ) → Receives s k t → open_count t ≡ open_count s
+  pub ends_delivery : (s t : GuestState) (k : ℕ) → EndsDelivery s k t → suc (open_count t) ≡ open_count s
   pub skips : (s t : GuestState) (k : ℕ) → Skips s k t → open_count t ≡ open_count s
   pub ends : (s t : GuestState) (end : End) → Ends s end t → open_count t ≡ 0
 
@@ -67,10 +70,12 @@ pub record SendLaws : Type 0 where
   pub accepted : (sent accepted : List Packet) (p : Packet) → AreAccepted 0 sent accepted → AreAccepted 0 (sent ++ p ∷ []) (accepted ++ p ∷ [])
   pub full : (sent accepted : List Packet) (p : Packet) → 64 ≤ length accepted → AreAccepted 0 sent accepted → AreAccepted 0 (sent ++ p ∷ []) accepted
 
--- what was taken stays, with entries that tell of no packet and where the packet in hand is received; and one that comes to hand is the last one taken
+-- what was taken stays, with entries that tell of no packet and where the packet in hand is received, be it copied or not; and one that comes to hand is the last one taken
 pub record TakeLaws : Type 0 where
   pub same : (s t : GuestState) (journal more : List Event) → TakesNothing s t → flat_map (taken_by s.received s.discarded) more ≡ [] → taken (journal ++ more) t ≡ taken journal s
   pub tells_same : (s t : GuestState) (journal : List Event) → TakesNothing s t → All (Tells s) journal → All (Tells t) journal
   pub comes : (s t : GuestState) (journal : List Event) (packet : Packet) → ComesToHand s t → t.hand ≡ Some packet → taken journal t ≡ taken journal s ++ packet ∷ []
   pub received : (s t : GuestState) (journal : List Event) (k : ℕ) → All (Tells s) journal → Receives s k t → taken (journal ++ PacketIn k ∷ []) t ≡ taken journal s
   pub tells : (s t : GuestState) (journal : List Event) (k : ℕ) → All (Tells s) journal → Receives s k t → All (Tells t) (journal ++ PacketIn k ∷ [])
+  pub ended : (s t : GuestState) (journal : List Event) (k : ℕ) → All (Tells s) journal → EndsDelivery s k t → taken (journal ++ PacketIn k ∷ []) t ≡ taken journal s
+  pub tells_ended : (s t : GuestState) (journal : List Event) (k : ℕ) → All (Tells s) journal → EndsDelivery s k t → All (Tells t) (journal ++ PacketIn k ∷ [])

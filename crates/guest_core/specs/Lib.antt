@@ -2,6 +2,7 @@ pub mod Starting
 pub mod Holding
 pub mod Using
 pub mod Wiring
+pub mod Blocks
 pub mod GuestView
 pub mod Asks
 pub mod Noting
@@ -11,6 +12,7 @@ pub mod Laws
 pub mod Making
 pub mod MoveCalls
 pub mod Frames
+pub mod Sharing
 pub mod GuestCalls
 pub mod AskCalls
 pub mod PacketCalls

@@ -3,37 +3,38 @@ use Rattle.std.specs.Prelude.{◌≡◌, ◌≢◌, ◌⊎◌, ℕ, suc, ◌<◌
 use Rattle.std.specs.declared.alloc.AllocError.{AllocError}
 use Rattle.base_words.specs.Membership.{HasNone}
 use Rattle.base_words.specs.declared.ids.CellId.{CellId}
+use Rattle.base_words.specs.declared.ids.NodeId.{NodeId}
 use Rattle.base_words.specs.declared.ids.Ppn.{Ppn}
 use Rattle.base_words.specs.declared.ids.ProcId.{ProcId}
 use Rattle.base_words.specs.declared.ids.VcpuId.{VcpuId}
 use Rattle.base_words.specs.declared.events.Event.{Event}
-use Rattle.base_words.specs.declared.events.Event.TheVariants.{Begin, Ack, Finish, Skip}
+use Rattle.base_words.specs.declared.events.Event.TheVariants.{Begin, Ack, Finish, Skip, End as Ending}
 use Rattle.base_words.specs.declared.moves.By.{By}
 use Rattle.base_words.specs.declared.moves.By.TheVariants.{Plan, Due, Step, Packet}
 use Rattle.base_words.specs.declared.moves.MoveKind.{MoveKind}
 use Rattle.base_words.specs.declared.moves.MoveKind.TheVariants.{Migrate, Replicate, Collapse}
 use Rattle.frame_words.specs.declared.view.View.{View}
 use Rattle.node_frames.specs.Layout.{Layout}
-use Rattle.node_frames.specs.Searches.{FindsNone}
+use Rattle.node_frames.specs.Searches.{Finds, FindsNone}
 use Rattle.node_frames.specs.declared.answers.Shown.{Shown as Entry}
-use Rattle.private_machine.specs.Backing.{Move, Page}
-use Rattle.private_machine.specs.DeviceAct.{ReadsDisk}
+use Rattle.private_machine.specs.Backing.{Change, Copy, Move, Page}
 use Rattle.pmap_table.specs.Tracking.{waits_for, is_ready, nobody, IsLowest, HoldsNowhere}
 use Rattle.shootdown.specs.declared.notes.Note.{Note}
 use Rattle.isolation_law.specs.Causes.{first_cause, seeks_frame}
 use Rattle.base_words.specs.declared.events.End.TheVariants.{Budget}
-use Rattle.isolation_law.specs.EndRows.{Ends}
 use Rattle.isolation_law.specs.GuestState.{GuestState, page, due_on}
 use Rattle.isolation_law.specs.Parts.{Wish, Cause, Ended, DeadCell, Shared, Replicated, SameNode, NoReplica, NoFrame}
 use Rattle.isolation_law.specs.Phases.{MayAct}
 use Rattle.isolation_law.specs.Run.{Run}
 use Rattle.isolation_law.specs.StepAct.{at_hand}
-use Rattle.isolation_law.specs.Surroundings.{Surroundings}
+use Rattle.isolation_law.specs.Surroundings.{Surroundings, home_cell}
+use Rattle.guest_course.specs.Acting.{page_used, IsOwnRead, IsTaken}
+use Rattle.guest_course.specs.EndCalls.{EndsSo, letting_go}
 use Rattle.guest_course.specs.RefillCalls.{ReachesPage}
 use Rattle.guest_course.specs.SkipView.{shown_of}
 use Rattle.guest_core.specs.Asks.{note_of}
 use Rattle.guest_core.specs.GuestView.{Monitored}
-use Rattle.guest_core.specs.Making.{MakesAlone, Rests}
+use Rattle.guest_core.specs.Making.{Makes, MakesAlone, Rests}
 use Rattle.guest_core.specs.declared.answers.Asked.{Asked}
 use Rattle.guest_core.specs.declared.answers.Asked.TheVariants as asked
 use Rattle.guest_core.specs.declared.answers.Ready.{Ready}
@@ -63,13 +64,20 @@ StillActs old new = (p : ℕ) → MayAct old.state p → MayAct new.state p
 
 -- ---- a step that meets a move
 
--- the step at hand is on this page: the processor traps for an access to it that the guest grants, or a block is to come into it
+-- the step at hand is on this page: the processor traps for an access to it that the guest grants, or a block comes into it, or one or a
+-- packet comes from it
 abbrev pub StepIsOn : GuestState → ℕ → ℕ → ℕ → Type 0
-StepIsOn s p v q = ReachesPage s p v q ⊎ ((b : ℕ) × (at_hand s v ≡ ReadsDisk b q))
+StepIsOn s p v q = ReachesPage s p v q ⊎ (page_used (at_hand s v) ≡ Some q)
 
--- the page has no move into which a block comes with the step at hand, if it reads one
-abbrev pub ReadsFree : GuestState → ℕ → Type 0
-ReadsFree s v = (b q : ℕ) → at_hand s v ≡ ReadsDisk b q → (page s q).move ≡ None
+-- so it is, and not for the disk read for which the page is taken shared already
+abbrev pub MeetsPage : GuestState → ℕ → ℕ → ℕ → Type 0
+MeetsPage s p v q = ReachesPage s p v q ⊎ ((page_used (at_hand s v) ≡ Some q) × (IsOwnRead s v q → ⊥))
+
+-- the page has a move, which does this
+pub record IsDoing (s : GuestState) (q : ℕ) (change : Change) : Type 0 where
+  pub move : Move
+  pub open_move : (page s q).move ≡ Some move
+  pub does : move.change ≡ change
 
 -- the page has a move that waits for these processors, of which there is one
 pub record HasWaiting (s : GuestState) (q : ℕ) (waiting : List Bool) : Type 0 where
@@ -85,12 +93,12 @@ pub record WaitsForMove (old : Monitored) (p : ProcId) (v : VcpuId) (q : Ppn) (s
   pub waiting : HasWaiting old.state q.0 set
   pub rests : Rests old new
 
--- the step needs a move of the page, which has begun
-pub record BeginsForStep (old : Monitored) (p : ProcId) (v : VcpuId) (q : Ppn) (new : Monitored) : Type 0 where
+-- the page was being taken shared for something else, and is let go
+pub record LetsGoOfPage (old : Monitored) (p : ProcId) (v : VcpuId) (q : Ppn) (new : Monitored) : Type 0 where
   pub rest : IsAtRest old.state p.0
-  pub step : StepIsOn old.state p.0 v.0 q.0
-  pub kind : MoveKind
-  pub makes : MakesAlone old (Begin q kind (record { 0 = old.state.around.home }) (Step p) ∷ []) new
+  pub meets : MeetsPage old.state p.0 v.0 q.0
+  pub taken : IsTaken old.state q.0
+  pub makes : MakesAlone old (Finish q ∷ []) new
 
 -- ---- a move that is asked for
 
@@ -122,11 +130,21 @@ pub record IsLayoutOf (w : Surroundings) (layout : Layout) : Type 0 where
   pub frames : layout.frames ≡ w.frames
   pub cells : map (λ (c : CellId). c.0) layout.cells ≡ w.nodes
 
--- the node of which a frame was wanted showed this to the looks of this call
-pub record NodeShows (w : Surroundings) (lends : List ℕ) (home : ℕ) (node : ℕ) (shown : List Entry) (old new : View) : Type 0 where
+-- the nodes of which a frame was wanted showed this to the looks of this call
+pub record NodesShow (w : Surroundings) (lends : List ℕ) (home : ℕ) (order : List NodeId) (shown : List Entry) (old new : View) : Type 0 where
   pub layout : Layout
   pub lies : IsLayoutOf w layout
-  pub finds : FindsNone layout lends home (record { 0 = node } ∷ []) shown old new
+  pub finds : FindsNone layout lends home order shown old new
+
+-- a frame was found in this order of nodes
+pub record FindsFrame (w : Surroundings) (lends : List ℕ) (order : List NodeId) (copy : Copy) (old new : View) : Type 0 where
+  pub layout : Layout
+  pub lies : IsLayoutOf w layout
+  pub finds : Finds layout lends (home_cell w) order copy.frame copy.generation old new
+
+-- one node showed this
+abbrev pub NodeShows : Surroundings → List ℕ → ℕ → ℕ → List Entry → View → View → Type 0
+NodeShows w lends home node shown old new = NodesShow w lends home (record { 0 = node } ∷ []) shown old new
 
 -- a cause that the guest's state shows; of a frame that is wanting, what its node showed, which is what is noted
 abbrev pub SeesCause : Surroundings → List ℕ → ℕ → ℕ → Cause → View → View → Type 0
@@ -189,6 +207,11 @@ told_by Packet wish answer = []
 
 -- ---- moves that are done
 
+-- nobody waits for the move of a page, which has one
+abbrev pub is_done : Option Move → Bool
+is_done None = false
+is_done (Some m) = nobody m.waiting
+
 pub record HasNoMove (old : Monitored) (q : ℕ) (new : Monitored) : Type 0 where
   pub none : (page old.state q).move ≡ None
   pub rests : Rests old new
@@ -197,16 +220,15 @@ pub record StillWaits (old : Monitored) (q : ℕ) (set : List Bool) (new : Monit
   pub waiting : HasWaiting old.state q set
   pub rests : Rests old new
 
--- the move of a page is done where nobody waited for it
+-- nobody waited for the move of a page, and it is done
+pub record FinishesMove (old : Monitored) (q : Ppn) (new : Monitored) : Type 0 where
+  pub done : is_done (page old.state q.0).move ≡ true
+  pub makes : MakesAlone old (Finish q ∷ []) new
+
 abbrev pub FinishesReady : Monitored → Ppn → Monitored → Ready → Type 0
-FinishesReady old q new ready.Finished = MakesAlone old (Finish q ∷ []) new
+FinishesReady old q new ready.Finished = FinishesMove old q new
 FinishesReady old q new (ready.Waits waiting) = StillWaits old q.0 waiting new
 FinishesReady old q new ready.NoMove = HasNoMove old q.0 new
-
--- nobody waits for the move of a page, which has one
-abbrev pub is_done : Option Move → Bool
-is_done None = false
-is_done (Some m) = nobody m.waiting
 
 -- the ends of all moves for which nobody waits, in order of their pages, counted from q
 abbrev pub finishing : ℕ → List Page → List Event
@@ -217,10 +239,12 @@ finishing q (g ∷ pages) = (if is_done g.move then Finish (record { 0 = q }) �
 abbrev pub NoneIsDone : GuestState → Type 0
 NoneIsDone s = (q : ℕ) → is_done (page s q).move ≡ false
 
--- these moves are finished, and the guest ends for the end of the plan
-pub record EndsByPlan (s t : GuestState) : Type 0 where
+-- these moves are finished, the pages are let go that are being taken shared still, and the guest ends for the end of the plan
+pub record EndsByPlan (old new : Monitored) : Type 0 where
   pub mid : GuestState
-  pub finishes : Run s (finishing 0 s.pages) mid
-  pub devices : mid.devices ≡ s.devices
-  pub hand : mid.hand ≡ s.hand
-  pub row : Ends mid Budget t
+  pub finishes : Run old.state (finishing 0 old.state.pages) mid
+  pub ended : new.state.end ≡ Some Budget
+  pub devices : new.state.devices ≡ old.state.devices
+  pub hand : new.state.hand ≡ old.state.hand
+  pub ends : EndsSo mid Budget new.state
+  pub makes : Makes old (finishing 0 old.state.pages ++ (letting_go 0 mid.pages ++ Ending Budget ∷ [])) new

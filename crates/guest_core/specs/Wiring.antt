@@ -1,9 +1,9 @@
 -- A guest's ends of its wires, against what it sent and what it took.
-use Rattle.std.specs.Prelude.{◌≡◌, ◌<◌, ◌-◌, ◌&&◌, nat_le, nat_lt, if◌then◌else◌, ℕ, List, [], length, map, All, Option, Some, None}
+use Rattle.std.specs.Prelude.{◌≡◌, ◌<◌, ◌-◌, ◌&&◌, nat_le, nat_lt, if◌then◌else◌, ℕ, List, [], length, map, All, Option, Some, None, slice_get}
 use Rattle.base_words.specs.declared.events.Event.{Event}
 use Rattle.private_machine.specs.Operation.{Packet}
 use Rattle.isolation_law.specs.GuestState.{GuestState}
-use Rattle.isolation_law.specs.Surroundings.{Surroundings}
+use Rattle.isolation_law.specs.Surroundings.{Surroundings, home_cell}
 use Rattle.isolation_law.specs.WireHistory.{sent_to, AreAccepted, taken_from, Tells}
 use Rattle.wire_queue.specs.Between.{Made, guest_count}
 use Rattle.wire_queue.specs.Ends.{Sending, Taking}
@@ -14,18 +14,22 @@ use Rattle.wire_queue.specs.declared.lists.PassList.{PassList}
 use Rattle.wire_queue.specs.declared.packet.WirePacket.{WirePacket}
 use Rattle.wire_queue.specs.declared.wires.Sent.{Sent}
 use Rattle.guest_course.specs.declared.posting.Outgoing.{Outgoing}
+use Rattle.guest_course.specs.Posting.{AreTermsOf}
 
 -- a packet of a wire, as a guest sees it
 abbrev pub shown : OnWire → Packet
 shown packet = record { from = packet.from; cell = packet.cell; bytes = packet.bytes }
 
--- the guest has its end of each of these wires, and there is one to each other guest and one from it
+-- the guest has its end of each of these wires, and there is one to each other guest and one from it; their terms are those of the machine
+-- around it, in which its own home cell is the one that all are told of
 pub record IsWired (wires : Made) (passes : PassList) (w : Surroundings) : Type 0 where
   pub list : IsListOf wires passes
   pub joins : JoinsAll wires
   pub guests : guest_count wires ≡ length w.homes
   pub number : passes.guest.0 ≡ w.guest
   pub is_guest : passes.guest.0 < guest_count wires
+  pub terms : AreTermsOf w wires.terms
+  pub at_home : slice_get w.homes w.guest ≡ Some (home_cell w)
 
 -- what was taken from an end, and nothing where there is no wire
 abbrev pub taken_at : Option Taking → List OnWire

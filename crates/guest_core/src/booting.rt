@@ -66,7 +66,7 @@ impl Parts {
         requires wired { IsWired wires.now passes (surroundings around) }
         requires unused { IsUnused passes }
         ensures kept { IfOk result IsKept }
-        ensures start { IfOk result (λ g. IsAtStart seat.number (booted_with around image vcpus frames disk input.now) seat.board holder.table wires.now passes (guest_of g)) }
+        ensures start { IfOk result (λ g. IsAtStart seat.number (booted_with around image vcpus frames disk input.now) around.disk seat.board holder.table wires.now passes (guest_of g)) }
     {
         start_holds();
         run_grows();
@@ -75,8 +75,10 @@ impl Parts {
         let uses = count_frames(alloc, &frames, &around.site.shape)?;
         let frames = fill(alloc, &frames, pages)?;
         let number: GuestId = seat.number();
+        let disk_number = around.disk;
         Ok(Parts {
             number,
+            disk: disk_number,
             start,
             course: Course::boot(alloc, around, entry, vcpus, frames, disk, input)?,
             holder,

@@ -1,10 +1,8 @@
 //! The end of a guest.
-ghost use Rattle.std.specs.Prelude.{◌≡◌, ◌≢◌, ◌≤◌, [], ◌∷◌, ◌++◌, None};
-ghost use Rattle.base_words.specs.declared.events.Event.TheVariants.{End as Ending};
-ghost use Rattle.base_words.specs.declared.events.End.TheVariants.{Budget};
+ghost use Rattle.std.specs.Prelude.{◌≡◌, ◌≢◌, ◌≤◌, [], None};
 ghost use Rattle.guest_core.specs.GuestView.{guest_of, IsSameGuest, AreOf, shared_by};
 ghost use Rattle.guest_core.specs.Kept.{IsKept};
-ghost use Rattle.guest_core.specs.Making.{Makes, MakesAlone};
+ghost use Rattle.guest_core.specs.Making.{MakesAlone};
 ghost use Rattle.guest_core.specs.MoveCalls.{finishing, NoneIsDone, EndsByPlan};
 ghost use Rattle.guest_core.specs.Records.{IsRecord};
 
@@ -12,7 +10,7 @@ use crate::laws::laws;
 use crate::parts::Parts;
 use crate::releasing::close;
 use crate::{GuestRecord, Resources};
-use base_words::{End, Event, Ppn, Sequence};
+use base_words::{End, Ppn, Sequence};
 use frame_words::Holder;
 use isolation_law::run_grows;
 use shootdown::GuestSeat;
@@ -29,6 +27,7 @@ impl Parts {
         ensures none { NoneIsDone (guest_of self.new).state }
         ensures devices { (guest_of self.new).state.devices ≡ (guest_of self.old).state.devices }
         ensures hand { (guest_of self.new).state.hand ≡ (guest_of self.old).state.hand }
+        ensures handed { (guest_of self.new).handed ≡ (guest_of self.old).handed }
         ensures not_ended { (guest_of self.new).state.end ≡ None }
         ensures notes { self.new.seat ≡ self.old.seat }
         ensures same { IsSameGuest (guest_of self.old) (guest_of self.new) }
@@ -43,15 +42,15 @@ impl Parts {
         }
     }
 
-    /// Ends a guest that hasn't ended, since the plan is done, once each move is finished for which nobody waits.
+    /// Ends a guest that hasn't ended, since the plan is done, once each move is finished for which nobody waits; pages that are being taken
+    /// shared still are let go before.
     pub(crate) fn end_budget(&mut self, resources: &Resources)
         requires kept { IsKept self.old }
         requires shared { AreOf (shared_by resources.now) (guest_of self.old) }
         requires room { 2 ≤ (guest_of self.old).room }
         requires not_ended { (guest_of self.old).state.end ≡ None }
         ensures kept { IsKept self.new }
-        ensures makes { Makes (guest_of self.old) (finishing 0 (guest_of self.old).state.pages ++ Ending Budget ∷ []) (guest_of self.new) }
-        ensures ended { EndsByPlan (guest_of self.old).state (guest_of self.new).state }
+        ensures ends { EndsByPlan (guest_of self.old) (guest_of self.new) }
         ensures notes { self.new.seat ≡ self.old.seat }
         ensures passes { (guest_of self.new).passes ≡ (guest_of self.old).passes }
         ensures same { IsSameGuest (guest_of self.old) (guest_of self.new) }
@@ -64,9 +63,9 @@ impl Parts {
             &mut self.holder,
             &mut self.uses,
             resources.table,
+            &mut self.journal,
             End::Budget,
         );
-        self.journal.push(Event::End(End::Budget));
     }
 
     /// What a guest that has ended leaves: its record, its holder with nothing, its ends of the wires, and its seat with its notes.
@@ -82,6 +81,7 @@ impl Parts {
     {
         let Parts {
             number: _,
+            disk: _,
             start: _,
             course,
             holder,

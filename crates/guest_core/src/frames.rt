@@ -1,6 +1,8 @@
 //! A guest's frames, as moves of its pages take them and give them back.
 ghost use Rattle.std.specs.Prelude.{◌≡◌, ◌<◌, ◌^◌, ℕ, true, [], ◌∷◌, None, IfOk, IfErr, length};
 ghost use Rattle.frame_words.specs.Holders.{IsMade};
+ghost use Rattle.node_frames.specs.Layout.{layout_of};
+ghost use Rattle.node_frames.specs.Places.{AreNodes};
 ghost use Rattle.private_machine.specs.Backing.{page_at};
 ghost use Rattle.pmap_table.specs.OpenMoves.{change_of};
 ghost use Rattle.isolation_law.specs.Causes.{first_cause, seeks_frame};
@@ -60,7 +62,7 @@ fn one_node(alloc: Global, node: NodeId) -> Result<NodeList, AllocError>
 
 /// A guest has not too many frames to be counted: those of its pages, each of which has few as they lie on different nodes, and the
 /// spares.
-fn frames_are_few(course: &Course)
+pub(crate) fn frames_are_few(course: &Course)
     requires sound { IsSound course.now }
     requires within { (frame : ℕ) → 0 < holds (state_of course.now) frame → frame < frames_around (state_of course.now).around }
     requires spread { AreSpread (state_of course.now) }
@@ -69,40 +71,32 @@ fn frames_are_few(course: &Course)
     let _spares = course.pmap.spares();
 }
 
-/// Takes a frame on a node, with a loan where it lies outside the home cell, and counts it. A refusal leaves the guest's frames as they
-/// are; want of memory has looked at none.
+/// Takes a frame on the first of these nodes that has one, with a loan where it lies outside the home cell, and counts it. A refusal leaves
+/// the guest's frames as they are; want of memory has looked at none.
 pub(crate) fn take(
     alloc: Global,
     course: &Course,
     holder: &mut Holder,
     uses: &mut Uses,
     table: &FrameTable,
-    node: NodeId,
+    order: &NodeList,
 ) -> Result<Frame, FindFault>
     requires made { IsMade table.now holder.old }
     requires fits { FitsAround table.now (state_of course.now).around }
     requires at_home { (state_of course.now).around.home < length (state_of course.now).around.nodes }
     requires sound { IsSound course.now }
     requires spread { AreSpread (state_of course.now) }
-    requires node { node.0 < length (state_of course.now).around.nodes }
+    requires nodes { AreNodes (layout_of course.now.around.site.shape) order.now }
     requires holding { IsHolding (state_of course.now) holder.old.view }
     requires used { AreUses (state_of course.now) uses.old }
-    ensures taken { IfOk result (λ frame. HasTaken (state_of course.now) node.0 frame holder.new.view uses.new) }
-    ensures refused { IfErr result (λ fault. Refuses (state_of course.now) table.now.terms.lends (home_of (state_of course.now).around) node.0 fault holder.old.view holder.new.view) }
+    ensures taken { IfOk result (λ frame. HasTaken (state_of course.now) table.now.terms.lends order.now frame holder.old.view holder.new.view uses.new) }
+    ensures refused { IfErr result (λ fault. Refuses (state_of course.now) table.now.terms.lends (home_of (state_of course.now).around) order.now fault holder.old.view holder.new.view) }
     ensures none { IfErr result (λ fault. TakesNone (state_of course.now) holder.new.view uses.old uses.new) }
     ensures same { holder.new.table ≡ holder.old.table }
 {
     frames_are_few(course);
-    let order = one_node(alloc, node)?;
     let home = home_cell(&course.around);
-    let frame = find(
-        alloc,
-        table,
-        holder,
-        &course.around.site.shape,
-        &order,
-        home,
-    )?;
+    let frame = find(alloc, table, holder, &course.around.site.shape, order, home)?;
     count_frame(uses, &course.around, frame.number);
     Ok(frame)
 }
@@ -131,18 +125,20 @@ pub(crate) fn change_for(
     requires planned { IsPlanned (state_of course.now).around (wanting wish) }
     requires no_cause { (p : ℕ) × (first_cause (state_of course.now) p (wanting wish) ≡ None) }
     ensures taken { IfOk result (λ change. HasTakenFor (state_of course.now) (wanting wish) (change_of change) holder.new.view uses.new) }
-    ensures refused { IfErr result (λ fault. Refuses (state_of course.now) table.now.terms.lends (home_of (state_of course.now).around) wish.node.0 fault holder.old.view holder.new.view) }
+    ensures refused { IfErr result (λ fault. Refuses (state_of course.now) table.now.terms.lends (home_of (state_of course.now).around) (wish.node ∷ []) fault holder.old.view holder.new.view) }
     ensures none { IfErr result (λ fault. TakesNone (state_of course.now) holder.new.view uses.old uses.new) }
     ensures seeks { IfErr result (λ fault. seeks_frame wish.kind ≡ true) }
     ensures same { holder.new.table ≡ holder.old.table }
 {
     match wish.kind {
         MoveKind::Migrate => {
-            let frame = take(alloc, course, holder, uses, table, wish.node)?;
+            let order = one_node(alloc, wish.node)?;
+            let frame = take(alloc, course, holder, uses, table, &order)?;
             Ok(Change::Migrate(frame))
         }
         MoveKind::Replicate => {
-            let frame = take(alloc, course, holder, uses, table, wish.node)?;
+            let order = one_node(alloc, wish.node)?;
+            let frame = take(alloc, course, holder, uses, table, &order)?;
             Ok(Change::Replicate(frame))
         }
         MoveKind::Collapse => Ok(Change::Collapse),

@@ -83,7 +83,7 @@ impl Guest {
         requires no_notes { seat.notes ≡ [] }
         requires wired { IsWired wires.now passes (surroundings around) }
         requires unused { IsUnused passes }
-        ensures { IfOk result (λ g. IsAtStart seat.number (booted_with around image vcpus frames disk input.now) seat.board holder.table wires.now passes g) }
+        ensures { IfOk result (λ g. IsAtStart seat.number (booted_with around image vcpus frames disk input.now) around.disk seat.board holder.table wires.now passes g) }
     {
         Ok(Guest {
             parts: Parts::boot(
@@ -118,6 +118,7 @@ impl Guest {
         ensures stays { Stays self.old self.new }
         ensures notes { self.new.notes ≡ self.old.notes }
         ensures passes { self.new.passes ≡ self.old.passes }
+        ensures handed { self.new.handed ≡ self.old.handed }
         ensures room { OnOk result (2 ≤ self.new.room) }
     {
         self.parts.make_room()
@@ -199,7 +200,7 @@ impl Guest {
         requires shared { AreOf (shared_by resources.now) self.old }
         requires loaded { (processor_at self.old.state token.old.number).loaded ≢ None }
         requires acts { MayAct self.old.state token.old.number }
-        ensures turns { Turns self.old (processor_of token.old) (loaded_on self.old token.old) self.new result }
+        ensures turns { Turns (shared_by resources.now) self.old (processor_of token.old) (loaded_on self.old token.old) self.new result }
         ensures leaves { Leaves self.old token.old (told_of_turn (processor_of token.old) (loaded_on self.old token.old) result) self.new token.new }
     {
         self.parts.turn(rt, alloc, token, resources)
@@ -232,6 +233,7 @@ impl Guest {
     pub fn finish_ready(&mut self, page: Ppn, resources: &Resources) -> Ready
         requires { AreOf (shared_by resources.now) self.old }
         ensures finishes { FinishesReady self.old page self.new result }
+        ensures handed { self.new.handed ≡ self.old.handed }
         ensures notes { self.new.notes ≡ self.old.notes }
         ensures same { IsSameGuest self.old self.new }
         ensures room { self.old.room ≤ self.new.room }
@@ -288,13 +290,12 @@ impl Guest {
     }
 
     /// Ends a guest that hasn't ended, since the plan is done, once each move is finished for which nobody waits, in order of the pages. It
-    /// gives all its frames back.
+    /// gives all its frames back; pages that are being taken shared still are let go before.
     pub fn end_budget(&mut self, resources: &Resources)
         requires room { 2 ≤ self.old.room }
         requires shared { AreOf (shared_by resources.now) self.old }
         requires not_ended { self.old.state.end ≡ None }
-        ensures makes { Makes self.old (finishing 0 self.old.state.pages ++ Ending Budget ∷ []) self.new }
-        ensures ended { EndsByPlan self.old.state self.new.state }
+        ensures ends { EndsByPlan self.old self.new }
         ensures notes { self.new.notes ≡ self.old.notes }
         ensures passes { self.new.passes ≡ self.old.passes }
         ensures same { IsSameGuest self.old self.new }

@@ -30,6 +30,7 @@ impl Parts {
         ensures stays { Stays (guest_of self.old) (guest_of self.new) }
         ensures notes { self.new.seat ≡ self.old.seat }
         ensures passes { self.new.wiring ≡ self.old.wiring }
+        ensures handed { (guest_of self.new).handed ≡ (guest_of self.old).handed }
         ensures room { OnOk result (2 ≤ (guest_of self.new).room) }
     {
         self.journal

@@ -17,7 +17,7 @@ mod receiving;
 mod records;
 mod releasing;
 mod resources;
-mod serving;
+mod sharing;
 mod start;
 mod turning;
 mod using;

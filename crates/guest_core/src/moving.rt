@@ -31,6 +31,7 @@ impl Parts {
         ensures kept { IsKept self.new }
         ensures makes { MakesAlone (guest_of self.old) (Ack processor page ∷ []) (guest_of self.new) }
         ensures notes { self.new.seat ≡ self.old.seat }
+        ensures handed { (guest_of self.new).handed ≡ (guest_of self.old).handed }
         ensures same { IsSameGuest (guest_of self.old) (guest_of self.new) }
         ensures room { (guest_of self.old).room ≤ (guest_of self.new).room + 2 }
     {
@@ -54,6 +55,7 @@ impl Parts {
         ensures notes { self.new.seat ≡ self.old.seat }
         ensures acts { StillActs (guest_of self.old) (guest_of self.new) }
         ensures hand { (guest_of self.new).state.hand ≡ (guest_of self.old).state.hand }
+        ensures handed { (guest_of self.new).handed ≡ (guest_of self.old).handed }
         ensures same { IsSameGuest (guest_of self.old) (guest_of self.new) }
         ensures room { (guest_of self.old).room ≤ (guest_of self.new).room }
     {
@@ -80,6 +82,7 @@ impl Parts {
         ensures notes { self.new.seat ≡ self.old.seat }
         ensures acts { StillActs (guest_of self.old) (guest_of self.new) }
         ensures hand { (guest_of self.new).state.hand ≡ (guest_of self.old).state.hand }
+        ensures handed { (guest_of self.new).handed ≡ (guest_of self.old).handed }
         ensures same { IsSameGuest (guest_of self.old) (guest_of self.new) }
         ensures room { (guest_of self.old).room ≤ (guest_of self.new).room }
     {

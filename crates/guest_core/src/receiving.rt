@@ -1,21 +1,25 @@
 //! Packets come to a guest.
-ghost use Rattle.std.specs.Prelude.{◌≡◌, ◌≢◌, ◌≤◌, ◌+◌, ℕ, Some, None, Ok};
+ghost use Rattle.std.specs.Prelude.{◌≡◌, ◌≢◌, ◌≤◌, ◌+◌, ℕ, Some, None, IfOk, OnOk, OnErr};
 ghost use Rattle.std.specs.Bool.{OnTrue, OnFalse};
 ghost use Rattle.wire_queue.specs.ListSteps.{HasTaken};
 ghost use Rattle.isolation_law.specs.GuestState.{page as page_of};
 ghost use Rattle.guest_course.specs.CourseRules.{IsWritable};
+ghost use Rattle.guest_course.specs.Acting.{IsOwnDelivery};
 ghost use Rattle.guest_course.specs.Hurdles.{NeedsMove};
 ghost use Rattle.guest_core.specs.GuestView.{guest_of, IsSameGuest, AreOf, shared_by};
 ghost use Rattle.guest_core.specs.Kept.{IsKept};
 ghost use Rattle.guest_core.specs.MoveCalls.{StillActs};
-ghost use Rattle.guest_core.specs.PacketCalls.{IsArmed, Fetches, KeepsEnds, SameSends, TakesPacket};
+ghost use Rattle.guest_core.specs.PacketCalls.{AfterHand, BeginsByHand, IsArmed, Fetches, KeepsEnds, ReceivesNext, SameSends, SharesPacket, TakesPacket};
 
+use crate::frames::give_back;
 use crate::laws::laws;
 use crate::parts::Parts;
+use crate::sharing::hold_too;
+use crate::turning::begin_entry;
 use crate::{Packeted, Ready, Resources};
 use base_words::{By, Event, MoveKind, Ppn};
 use guest_course::Hurdle;
-use isolation_law::{exchanges, hand_keeps, run_grows};
+use isolation_law::{exchanges, frames_spread, hand_keeps, run_grows, uses_change};
 use std::alloc::{AllocError, Global};
 use std::sync::Wait;
 
@@ -53,29 +57,102 @@ impl Parts {
     }
 
     /// Copies the packet in hand into the page that is armed.
-    fn receive(&mut self, alloc: Global) -> Result<Packeted, AllocError>
+    fn receive(&mut self, alloc: Global) -> Result<(), AllocError>
         requires kept { IsKept self.old }
         requires room { 2 ≤ (guest_of self.old).room }
         requires armed { IsArmed (guest_of self.old) }
         requires in_hand { (guest_of self.old).state.hand ≢ None }
         requires writable { (q : ℕ) → (guest_of self.old).state.devices.armed ≡ Some q → IsWritable (page_of (guest_of self.old).state q) }
         ensures kept { IsKept self.new }
-        ensures takes { TakesPacket (guest_of self.old) (guest_of self.new) result }
-        ensures passes { (guest_of self.new).passes ≡ (guest_of self.old).passes }
-        ensures acts { StillActs (guest_of self.old) (guest_of self.new) }
-        ensures same { IsSameGuest (guest_of self.old) (guest_of self.new) }
-        ensures room { (guest_of self.old).room ≤ (guest_of self.new).room + 2 }
+        ensures received { OnOk result (ReceivesNext (guest_of self.old) (guest_of self.new)) }
+        ensures view { (guest_of self.new).view ≡ (guest_of self.old).view }
+        ensures unchanged { OnErr result (self.new ≡ self.old) }
+        ensures leaves { AfterHand (guest_of self.old) (guest_of self.new) }
     {
         exchanges();
         laws();
         let place = self.course.received.len() as u64;
         self.course.receive(alloc)?;
         self.journal.push(Event::PacketIn(place));
-        Ok(Packeted::Delivered)
+        Ok(())
     }
 
-    /// Begins the move that the page needs that is armed before the packet in hand comes into it.
-    fn begin_for_packet(&mut self, page: Ppn, kind: MoveKind) -> Packeted
+    /// Ends the move by which the page that is armed is taken shared for the packet in hand: the frame that the packet hands on backs it.
+    fn end_delivery(&mut self, alloc: Global, resources: &Resources) -> Result<(), AllocError>
+        requires kept { IsKept self.old }
+        requires shared { AreOf (shared_by resources.now) (guest_of self.old) }
+        requires room { 2 ≤ (guest_of self.old).room }
+        requires armed { IsArmed (guest_of self.old) }
+        requires in_hand { (guest_of self.old).state.hand ≢ None }
+        requires own { (q : ℕ) → (guest_of self.old).state.devices.armed ≡ Some q → IsOwnDelivery (guest_of self.old).state q }
+        ensures kept { IsKept self.new }
+        ensures received { OnOk result (ReceivesNext (guest_of self.old) (guest_of self.new)) }
+        ensures unchanged { OnErr result (self.new ≡ self.old) }
+        ensures leaves { AfterHand (guest_of self.old) (guest_of self.new) }
+    {
+        exchanges();
+        uses_change();
+        laws();
+        let place = self.course.received.len() as u64;
+        let freed = self.course.end_delivery(alloc)?;
+        give_back(
+            &self.course,
+            &mut self.holder,
+            &mut self.uses,
+            resources.table,
+            freed,
+        );
+        self.journal.push(Event::PacketIn(place));
+        Ok(())
+    }
+
+    /// Begins to take the page shared that is armed, where the packet in hand hands on a frame that somebody holds still. Want of memory
+    /// comes only before the frame's word was touched.
+    fn share_packet(
+        &mut self,
+        alloc: Global,
+        page: Ppn,
+        resources: &Resources,
+    ) -> Result<bool, AllocError>
+        requires kept { IsKept self.old }
+        requires shared { AreOf (shared_by resources.now) (guest_of self.old) }
+        requires room { 2 ≤ (guest_of self.old).room }
+        requires not_ended { (guest_of self.old).state.end ≡ None }
+        requires armed { (guest_of self.old).state.devices.armed ≡ Some page.0 }
+        requires in_hand { (guest_of self.old).state.hand ≢ None }
+        requires rests { (page_of (guest_of self.old).state page.0).move ≡ None }
+        ensures kept { IsKept self.new }
+        ensures shares { IfOk result (SharesPacket (guest_of self.old) page (guest_of self.new)) }
+        ensures unchanged { OnErr result (self.new ≡ self.old) }
+        ensures leaves { AfterHand (guest_of self.old) (guest_of self.new) }
+    {
+        exchanges();
+        uses_change();
+        frames_spread();
+        laws();
+        let Some((target, delivery)) = self.course.delivery()? else {
+            return Ok(false);
+        };
+        let table = resources.table;
+        let held = hold_too(
+            &self.course,
+            &mut self.holder,
+            &mut self.uses,
+            table,
+            &target,
+        );
+        if !held {
+            return Ok(false);
+        }
+        self.course.begin_for_delivery(page, target, delivery);
+        let kind = MoveKind::TakeShared;
+        self.journal
+            .push(begin_entry(&self.course, page, kind, By::Packet));
+        Ok(true)
+    }
+
+    /// Begins the move that the page needs that is armed before the packet in hand is copied into it.
+    fn begin_for_packet(&mut self, page: Ppn, kind: MoveKind)
         requires kept { IsKept self.old }
         requires room { 2 ≤ (guest_of self.old).room }
         requires not_ended { (guest_of self.old).state.end ≡ None }
@@ -83,47 +160,48 @@ impl Parts {
         requires in_hand { (guest_of self.old).state.hand ≢ None }
         requires needs { NeedsMove (guest_of self.old).state page.0 kind }
         ensures kept { IsKept self.new }
-        ensures takes { TakesPacket (guest_of self.old) (guest_of self.new) (Ok result) }
-        ensures passes { (guest_of self.new).passes ≡ (guest_of self.old).passes }
-        ensures acts { StillActs (guest_of self.old) (guest_of self.new) }
-        ensures same { IsSameGuest (guest_of self.old) (guest_of self.new) }
-        ensures room { (guest_of self.old).room ≤ (guest_of self.new).room + 2 }
+        ensures begins { BeginsByHand (guest_of self.old) page kind (guest_of self.new) }
+        ensures view { (guest_of self.new).view ≡ (guest_of self.old).view }
+        ensures leaves { AfterHand (guest_of self.old) (guest_of self.new) }
     {
         exchanges();
         laws();
         self.course.begin_for_packet(page, kind);
-        self.journal.push(Event::Begin {
-            page,
-            kind,
-            node: self.course.around.home,
-            by: By::Packet,
-        });
-        Packeted::Begun(page)
+        self.journal
+            .push(begin_entry(&self.course, page, kind, By::Packet));
     }
 
-    /// The page that is armed has a move: it is finished where nobody waits for it any more.
-    fn finish_for_packet(&mut self, page: Ppn, resources: &Resources) -> Packeted
+    /// The page that is armed has a move: it ends with the packet in hand where it is for that one, and is else finished where nobody waits
+    /// for it any more.
+    fn meet_packet(
+        &mut self,
+        alloc: Global,
+        page: Ppn,
+        resources: &Resources,
+    ) -> Result<Packeted, AllocError>
         requires kept { IsKept self.old }
         requires shared { AreOf (shared_by resources.now) (guest_of self.old) }
-        requires not_ended { (guest_of self.old).state.end ≡ None }
-        requires armed { (guest_of self.old).state.devices.armed ≡ Some page.0 }
+        requires room { 2 ≤ (guest_of self.old).room }
+        requires armed { IsArmed (guest_of self.old) }
+        requires page { (guest_of self.old).state.devices.armed ≡ Some page.0 }
         requires in_hand { (guest_of self.old).state.hand ≢ None }
         requires moves { (page_of (guest_of self.old).state page.0).move ≢ None }
         ensures kept { IsKept self.new }
-        ensures takes { TakesPacket (guest_of self.old) (guest_of self.new) (Ok result) }
-        ensures passes { (guest_of self.new).passes ≡ (guest_of self.old).passes }
-        ensures acts { StillActs (guest_of self.old) (guest_of self.new) }
-        ensures same { IsSameGuest (guest_of self.old) (guest_of self.new) }
-        ensures room { (guest_of self.old).room ≤ (guest_of self.new).room + 2 }
+        ensures takes { TakesPacket (guest_of self.old) (guest_of self.new) result }
+        ensures leaves { AfterHand (guest_of self.old) (guest_of self.new) }
     {
+        if self.course.is_own_delivery(page) {
+            self.end_delivery(alloc, resources)?;
+            return Ok(Packeted::Delivered);
+        }
         match self.finish_ready(page, resources) {
-            Ready::Finished => Packeted::Finished(page),
-            Ready::Waits(waiting) => Packeted::Waits(page, waiting),
+            Ready::Finished => Ok(Packeted::Finished(page)),
+            Ready::Waits(waiting) => Ok(Packeted::Waits(page, waiting)),
             Ready::NoMove => unreachable!(),
         }
     }
 
-    /// Copies the packet in hand into the page that is armed, once nothing is in the way of its bytes.
+    /// The packet in hand comes into the page that is armed, once nothing is in its way: the frame that it hands on, or else its bytes.
     fn take_in(&mut self, alloc: Global, resources: &Resources) -> Result<Packeted, AllocError>
         requires kept { IsKept self.old }
         requires shared { AreOf (shared_by resources.now) (guest_of self.old) }
@@ -132,15 +210,27 @@ impl Parts {
         requires in_hand { (guest_of self.old).state.hand ≢ None }
         ensures kept { IsKept self.new }
         ensures takes { TakesPacket (guest_of self.old) (guest_of self.new) result }
-        ensures passes { (guest_of self.new).passes ≡ (guest_of self.old).passes }
-        ensures acts { StillActs (guest_of self.old) (guest_of self.new) }
-        ensures same { IsSameGuest (guest_of self.old) (guest_of self.new) }
-        ensures room { (guest_of self.old).room ≤ (guest_of self.new).room + 2 }
+        ensures leaves { AfterHand (guest_of self.old) (guest_of self.new) }
     {
+        let Some(armed) = self.course.armed() else {
+            unreachable!();
+        };
         match self.course.packet_hurdle() {
-            Hurdle::Free => self.receive(alloc),
-            Hurdle::Needs(page, kind) => Ok(self.begin_for_packet(page, kind)),
-            Hurdle::Waits(page) => Ok(self.finish_for_packet(page, resources)),
+            Hurdle::Waits(page) => self.meet_packet(alloc, page, resources),
+            Hurdle::Needs(page, kind) => {
+                if self.share_packet(alloc, page, resources)? {
+                    return Ok(Packeted::Begun(page));
+                }
+                self.begin_for_packet(page, kind);
+                Ok(Packeted::Begun(page))
+            }
+            Hurdle::Free => {
+                if self.share_packet(alloc, armed, resources)? {
+                    return Ok(Packeted::Begun(armed));
+                }
+                self.receive(alloc)?;
+                Ok(Packeted::Delivered)
+            }
         }
     }
 

@@ -12,6 +12,7 @@ use Rattle.base_words.specs.declared.ids.NodeId.{NodeId}
 use Rattle.base_words.specs.declared.input.InputEntry.{InputEntry}
 use Rattle.private_machine.specs.Vcpu.{started}
 use Rattle.private_machine.specs.SecondLevel.{no_seconds}
+use Rattle.private_machine.specs.Operation.{Operation as Purpose}
 use Rattle.private_machine.specs.Policy.{no_misses}
 use Rattle.guest_devs.specs.DeviceState.{DeviceState, fresh}
 use Rattle.page_policy.specs.Pages.{AreCounters}
@@ -22,7 +23,7 @@ use Rattle.isolation_law.specs.Parts.{Processor}
 use Rattle.isolation_law.specs.Start.{pages_at_start, no_cells, IsBoot, start}
 use Rattle.isolation_law.specs.Coherence.{Coherent}
 use Rattle.guest_course.specs.SkipView.{skip_of}
-use Rattle.guest_course.specs.CourseView.{surroundings, processor_of, due_of, hand_of, got_of, state_of}
+use Rattle.guest_course.specs.CourseView.{surroundings, processor_of, purpose_of, due_of, hand_of, got_of, state_of}
 use Rattle.guest_course.specs.CourseRules.{AllStand, IsSound}
 use Rattle.guest_course.specs.declared.site.Around.{Around}
 use Rattle.guest_course.specs.declared.course.Course.{Course}
@@ -97,6 +98,7 @@ pub record Booted (c : Course) (around : Around) (entry vcpus : ℕ) (frames : L
   pub seconds : c.seconds.items ≡ replicate vcpus no_seconds
   pub counters : c.counters ≡ replicate (length frames) (no_misses around.site.shape.nodes)
   pub counted : AreCounters (length frames) around.site.shape.nodes c.counters
+  pub operations : c.operations.items ≡ replicate (length frames) None
   pub due : c.due.items ≡ replicate (length around.site.processors) None
   pub sent_from : c.sent_from.items ≡ []
   pub received : c.received.items ≡ []
@@ -118,7 +120,7 @@ booted-state c around entry vcpus frames disk input may b =
     let count : length (map found_of frames) ≡ length frames = length-map frames found_of in
     let pages = b.pages ∙ sym (pages-start frames may.whole) in
     let blocks = b.disk_is ∙ may.unwritten in
-    let operations : length c.pmap.pages ≡ length (map found_of frames) = ap length b.pages ∙ length-map frames own_page ∙ sym count in
+    let operations = ap (map purpose_of) b.operations ∙ map-replicate purpose_of (length frames) None ∙ ap (λ (n : ℕ). replicate {A = Option Purpose} n None) (sym count) in
     let misses = b.counters ∙ (λ i. replicate (sym count i) (no_misses (sym (node-count around) i))) in
     let processors : length around.site.processors ≡ length (surroundings around).processors = sym (length-map around.site.processors _) in
     λ i. record {
@@ -134,7 +136,7 @@ booted-state c around entry vcpus frames disk input may b =
       end = b.ended i;
       closing = None;
       pages = pages i;
-      operations = replicate (operations i) None;
+      operations = operations i;
       misses = misses i;
       spares = b.spares i;
       processors = (ap (map processor_of) b.places ∙ idle-places around.site.shape.frames around.site.processors ∙ ap (λ n. replicate n idle) processors) i;

@@ -34,7 +34,7 @@ status s v command = disk_status (content s) (set_by s v) command
 abbrev pub acts_by : Transfer → ℕ → Bool → Act
 acts_by t command done = if not done then NoAct else if command == 1 then ReadsDisk t.block t.page else WritesDisk t.block t.page
 
-command-leads : (s : GuestState) (v command : ℕ) → Stores (joined (content s) v) v (attempted (joined (content s) v) v) (at_hand s v) command DiskCommand
+pub command-leads : (s : GuestState) (v command : ℕ) → Stores (joined (content s) v) v (attempted (joined (content s) v) v) (at_hand s v) command DiskCommand
     → attempted (joined (content s) v) v ≡ Ok (commanded (passed_by (content s) v) v (set_by s v) command (status s v command))
 command-leads s v command stores =
     let m = content s in

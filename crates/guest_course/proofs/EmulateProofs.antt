@@ -83,7 +83,7 @@ pub record Remade (c d : Course) : Type 0 where
   pub around : d.around ≡ c.around
   pub counted : (pages nodes : ℕ) → AreCounters pages nodes c.counters → AreCounters pages nodes d.counters
   pub ended : d.ended ≡ c.ended
-  pub in_hand : FitsInHand d.hand
+  pub in_hand : FitsInHand (surroundings c.around) d.hand
   pub cells : length d.sent_from.items ≡ length d.devs.state.page.sent
   pub vcpus : length d.vcpus.items ≡ length c.vcpus.items
   pub fits : Fits (length d.pmap.pages) d.vcpus.items d.devs.state
@@ -93,7 +93,7 @@ pub record Remade (c d : Course) : Type 0 where
   pub long : length d.pmap.pages ≡ length c.pmap.pages
   pub stands : AllStand (surroundings c.around) 0 d.places.items
 
-pub remade : (c d : Course) → d ≡ record c { vcpus = d.vcpus; devs = d.devs } → length d.vcpus.items ≡ length c.vcpus.items → Fits (length c.pmap.pages) d.vcpus.items d.devs.state → AllStand (surroundings c.around) 0 c.places.items → FitsInHand c.hand → length c.sent_from.items ≡ length d.devs.state.page.sent → Remade c d
+pub remade : (c d : Course) → d ≡ record c { vcpus = d.vcpus; devs = d.devs } → length d.vcpus.items ≡ length c.vcpus.items → Fits (length c.pmap.pages) d.vcpus.items d.devs.state → AllStand (surroundings c.around) 0 c.places.items → FitsInHand (surroundings c.around) c.hand → length c.sent_from.items ≡ length d.devs.state.page.sent → Remade c d
 remade c d same long fits stand hand cells =
     let places : d.places ≡ c.places = ap (λ (y : Course). y.places) same in
     let pmap = ap (λ (y : Course). y.pmap) same in
@@ -148,7 +148,7 @@ sound-remade c d sound on m loaded co =
       agree = m.fits.agree;
       loaded = λ p v is. subst (λ (k : ℕ). v < k) (sym m.vcpus) (loaded p v is);
       places = rw m.around m.stands;
-      in_hand = m.in_hand;
+      in_hand = rw m.around m.in_hand;
       going = λ _. record {
         coherent = co;
         pages = m.fits.of_pages;

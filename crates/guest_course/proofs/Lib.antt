@@ -32,5 +32,9 @@ pub mod SendRows
 pub mod WantingLemmas
 pub mod ReadLemmas
 pub mod LeaveProofs
+pub mod HaltLemmas
+pub mod TakingProofs
+pub mod DeliveryProofs
 pub mod ReceivingProofs
 pub mod PostingProofs
+pub mod OfferProofs

@@ -1,35 +1,41 @@
 -- The begin of a move that a page needs before its bytes change is its row.
-use Rattle.std.proofs.Common.{◌≡◌, ◌≢◌, ℕ, ◌/◌, ◌<◌, if◌then◌else◌, Bool, true, false, List, [], ◌∷◌, ◌++◌, Option, Some, None, option_map, Ok, Err, length, get_or, remove, slice_get, inl, inr, refl, sym, ap, ◌∙◌, subst}
+use Rattle.std.proofs.Common.{◌≡◌, ◌≢◌, ℕ, ◌/◌, ◌<◌, ◌==◌, ◌&&◌, not, if◌then◌else◌, Bool, true, false, List, [], ◌∷◌, ◌++◌, Option, Some, None, option_map, Ok, Err, length, get_or, remove, slice_get, inl, inr, refl, sym, ap, ◌∙◌, subst}
 use Rattle.std.proofs.lemmas.Bool.{cases_lt}
 use Rattle.std.proofs.lemmas.List.{get_or_past}
 use Rattle.base_words.specs.declared.ids.ProcId.{ProcId}
 use Rattle.base_words.specs.declared.moves.By.{By}
 use Rattle.base_words.specs.declared.moves.By.TheVariants.{Step, Packet}
 use Rattle.base_words.specs.declared.moves.MoveKind.{MoveKind}
-use Rattle.base_words.specs.declared.moves.MoveKind.TheVariants.{Collapse, Break}
+use Rattle.base_words.specs.declared.moves.MoveKind.TheVariants.{Collapse, Break, TakeShared, GiveShared}
 use Rattle.private_machine.specs.Backing.{Change, Copy, Page, no_page}
 use Rattle.base_words.specs.declared.place.Place.TheVariants.{Memory}
-use Rattle.private_machine.specs.DeviceAct.{StoresTo}
+use Rattle.private_machine.specs.DeviceAct.{Act, StoresTo, ReadsDisk, SendsPage, NoAct}
+use Rattle.private_machine.specs.DevicePage.{transfer_of}
+use Rattle.private_machine.specs.Devices.{may_send}
+use Rattle.private_machine.specs.Operation.{Packet as InHand, ReadsBlock, Delivers}
 use Rattle.private_machine.specs.HardwareStep.{Trap, Line, FetchMiss, DataMiss, ReadOnly, Address, Privileged, Raised, Dead}
 use Rattle.private_machine.specs.OwnStep.{led}
 use Rattle.private_machine.specs.Reaching.{Wanted}
 use Rattle.private_machine.specs.TrapAccess.{trapped_access, missed_access}
 use Rattle.guest_devs.specs.declared.act.DevAct.{DevAct}
+use Rattle.guest_devs.specs.declared.act.DevAct.TheVariants as acts
 use Rattle.isolation_law.specs.Coherence.{Coherent}
 use Rattle.isolation_law.specs.Content.{content}
 use Rattle.isolation_law.specs.Start.{no_cells}
 use Rattle.isolation_law.specs.Traps.{step_on}
 use Rattle.private_machine.specs.PageMove.{kind_of, target_of}
-use Rattle.isolation_law.specs.GuestState.{GuestState, page, processor}
+use Rattle.isolation_law.specs.GuestState.{GuestState, page, processor, hand_place}
 use Rattle.isolation_law.specs.MoveRows.{Asks, Begins, Fits, LiesAlive, TakesSpare, with_begun}
-use Rattle.isolation_law.specs.Needs.{Need, needed, for_change, none_of}
+use Rattle.isolation_law.specs.Needs.{Need, needed, for_change, none_of, may_share_block, may_offer}
 use Rattle.isolation_law.specs.Phases.{GoesOn}
 use Rattle.isolation_law.specs.StepAct.{at_hand}
 use Rattle.wire_queue.specs.declared.packet.WirePacket.{WirePacket}
 use Rattle.guest_course.specs.declared.course.Course.{Course}
 use Rattle.guest_course.specs.CourseView.{surroundings, hand_of, state_of}
 use Rattle.guest_course.specs.CourseRules.{AllStand, IsSound}
+use Rattle.guest_course.specs.Acting.{act_of}
 use Rattle.guest_course.specs.EmulateCalls.{LeavesAct}
+use Rattle.guest_course.specs.Posting.{to_give}
 use Rattle.guest_course.specs.Hurdles.{NeedsMove}
 use Rattle.guest_course.specs.MoveCalls.{home_wish}
 use Rattle.guest_course.specs.Rebacking.{Rebacked}
@@ -37,6 +43,7 @@ use Rattle.guest_course.specs.RefillCalls.{ReachesPage, StaysNeeding}
 use Rattle.guest_course.specs.StepCalls.{MayStep}
 use Rattle.guest_course.specs.Tasks.{read_page}
 use Rattle.guest_course.proofs.DirectRow.{none-dead}
+use Rattle.guest_course.proofs.HurdleLemmas.{never-some}
 use Rattle.guest_course.proofs.ReadLemmas.{read-at-hand}
 use Rattle.guest_course.proofs.RefillProofs.{none-lost}
 
@@ -164,4 +171,59 @@ rebacked-spared c m d same pages r = record {
   due = r.due ∙ ap (λ (y : Course). length y.due.items) same;
   long = r.long ∙ ap length pages;
   stands = subst (λ a. AllStand (surroundings a) 0 d.places.items) (ap (λ (y : Course). y.around) same) r.stands;
+}
+
+-- the disk read at hand asks to take its page shared
+pub block-asks : (s : GuestState) (p : ProcId) (v b q : ℕ) (act : DevAct) → LeavesAct s p.0 v act s → at_hand s v ≡ ReadsDisk b q → may_share_block s b ≡ true → Asks s (Step p) (home_wish s q TakeShared) (Some (ReadsBlock v b))
+block-asks s p v b q act left hand may = record {
+  v = v;
+  runs = left.traps.runs;
+  shares = true;
+  needs = inl (ap (needed s v true) hand ∙ ap (λ (x : Bool). if x then Some (record { page = q; kind = TakeShared; operation = Some (ReadsBlock v b) }) else for_change s q) may);
+  at_home = refl;
+}
+
+abbrev give_need : ℕ → Need
+give_need q = record { page = q; kind = GiveShared; operation = None }
+
+-- a send at hand of a page that has to be given for it asks for that
+pub give-asks : (s : GuestState) (p : ProcId) (v q : ℕ) (act : DevAct) → LeavesAct s p.0 v act s → at_hand s v ≡ act_of s v act → to_give s v act ≡ Some q → Asks s (Step p) (home_wish s q GiveShared) None
+give-asks s p v q act left hand gives = record {
+  v = v;
+  runs = left.traps.runs;
+  shares = true;
+  needs = inl (ap (needed s v true) hand ∙ needs act gives);
+  at_home = refl;
+}
+  where
+    ap-if : (f : Act → Option Need) (b : Bool) (x y : Act) → f (if b then x else y) ≡ (if b then f x else f y)
+    ap-if f true x y = refl
+    ap-if f false x y = refl
+
+    giving : (may offers : Bool) (r : ℕ) → (if may && offers then Some r else None) ≡ Some q
+        → (if may then (if offers then Some (give_need r) else None) else None) ≡ Some (give_need q)
+    giving true true r is = ap (option_map give_need) is
+    giving true false r is = absurd (never-some q is)
+    giving false offers r is = absurd (never-some q is)
+
+    needs : (a : DevAct) → to_give s v a ≡ Some q → needed s v true (act_of s v a) ≡ Some (give_need q)
+    needs acts.Done is = absurd (never-some q is)
+    needs acts.DiskRead is = absurd (never-some q is)
+    needs acts.DiskWrite is = absurd (never-some q is)
+    needs (acts.Send to) is =
+        let t = transfer_of s.devices v in
+        let may = may_send (content s) t in
+        ap-if (needed s v true) may (SendsPage t.send_page t.send_length to) NoAct ∙ giving may (may_offer s t.send_page t.send_length to && not (page s t.send_page).shared) t.send_page is
+
+-- and so does a packet that hands on a frame
+pub delivery-asks : (s : GuestState) (q : ℕ) (packet : InHand) → s.hand ≡ Some packet → s.devices.armed ≡ Some q → s.dead ≡ no_cells → length packet.bytes ≡ 4096
+    → Asks s Packet (home_wish s q TakeShared) (Some (Delivers (hand_place s) packet))
+delivery-asks s q packet is armed live full = record {
+  packet = packet;
+  in_hand = is;
+  armed = armed;
+  lives = ap (λ (l : List Bool). get_or l packet.cell false) live ∙ none-dead packet.cell;
+  shares = true;
+  needs = ap (λ (n : ℕ). if n == 4096 then Some (record { page = q; kind = TakeShared; operation = Some (Delivers (hand_place s) packet) }) else for_change s q) full;
+  at_home = refl;
 }

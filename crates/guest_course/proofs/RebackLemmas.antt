@@ -39,7 +39,7 @@ sound-rebacked c d sound r loaded co =
       agree = rw (r.devs, r.vcpus) sound.agree;
       loaded = λ p v is. subst (λ (l : Vec _). v < length l.items) (sym r.vcpus) (loaded p v is);
       places = rw r.around r.stands;
-      in_hand = rw r.hand sound.in_hand;
+      in_hand = rw (r.hand, r.around) sound.in_hand;
       going = λ on. going-rebacked c d r (sound.going (sym r.ended ∙ on)) (co on);
     }
 

@@ -23,6 +23,7 @@ use Rattle.guest_course.specs.EmulateCalls.{StaysLoaded}
 use Rattle.guest_course.proofs.CommandRows.{needs-none}
 use Rattle.guest_course.proofs.DirectRow.{none-dead}
 use Rattle.guest_course.proofs.EmulateProofs.{Remade}
+use Rattle.guest_course.proofs.HaltLemmas.{halted-unlinked, halted-lined}
 use Rattle.guest_course.proofs.StepProofs.{goes-on}
 
 -- what the parts of a guest become by a packet that comes into a page
@@ -42,9 +43,8 @@ state-received c d q x armed r =
     let here = λ (a : Option ℕ). came_into m x.from.0 x.bytes a in
     let vcpus = r.vcpus ∙ ap (λ (a : Option ℕ). (here a).vcpus) (sym armed) in
     let devices = ap (λ (y : DeviceState). y.page) r.devs ∙ ap (λ (a : Option ℕ). (here a).devices) (sym armed) in
-    let long = ap (λ (y : PageMap). length y.pages) r.pmap ∙ length-set c.pmap.pages q (with_first x.bytes (page_at c.pmap.pages q)) in
     let received = ap (map got_of) r.received ∙ map-append got_of c.received.items (x ∷ []) in
-    ap state_of r.same ∙ (λ i. record s { vcpus = vcpus i; devices = devices i; pages = (r.pmap i).pages; operations = replicate (long i) None; spares = (r.pmap i).spares; received = received i; hand = None })
+    ap state_of r.same ∙ (λ i. record s { vcpus = vcpus i; devices = devices i; pages = (r.pmap i).pages; spares = (r.pmap i).spares; received = received i; hand = None })
 
 pub receives-row : (c d : Course) (q : ℕ) (x : GotPacket) → IsSound c → GoesOn (state_of c) → IsWritable (page_at c.pmap.pages q) → (state_of c).devices.armed ≡ Some q
     → (state_of c).hand ≡ Some (got_of x) → Received c d q x → Receives (state_of c) (length c.received.items) (state_of d)
@@ -59,7 +59,7 @@ receives-row c d q x sound on may armed hand r =
       after = state-received c d q x armed r;
     }
 
-changed-length : (f : Vcpu → Vcpu) (v : ℕ) (cs : List Vcpu) → length (changed v f cs) ≡ length cs
+pub changed-length : (f : Vcpu → Vcpu) (v : ℕ) (cs : List Vcpu) → length (changed v f cs) ≡ length cs
 changed-length f v cs = length-set cs v (f (get_or cs v no_vcpu))
 
 pub received-remade : (c d : Course) (q : ℕ) (x : GotPacket) → IsSound c → c.ended ≡ None → Received c d q x → Remade c d
@@ -94,14 +94,6 @@ received-stays c d q x r = record {
 }
 
 -- nobody halts by it
-halted-unlinked : (q : ℕ) (cs : List Vcpu) → all_halted (map (unlinked_page q) cs) ≡ all_halted cs
-halted-unlinked q [] = refl
-halted-unlinked q (c ∷ cs) = ap (λ (b : Bool). c.halted && b) (halted-unlinked q cs)
-
-halted-lined : (cs : List Vcpu) → all_halted (changed 0 (with_line_on 3 true) cs) ≡ all_halted cs
-halted-lined [] = refl
-halted-lined (c ∷ cs) = refl
-
 pub received-goes-on : (c d : Course) (q : ℕ) (x : GotPacket) → Received c d q x → GoesOn (state_of c) → GoesOn (state_of d)
 received-goes-on c d q x r =
     goes-on c d (ap all_halted r.vcpus ∙ halted-lined (map (unlinked_page q) c.vcpus.items) ∙ halted-unlinked q c.vcpus.items) (ap (λ (y : Course). y.ended) r.same)

@@ -67,9 +67,8 @@ stays-long c d p v access m =
 pub mid-state : (c d : Course) (p v : ℕ) (access : Access) (m : Made c d p v access) → state_of d ≡ left_by_step (state_of c) v d.pmap.pages m.executed.between
 mid-state c d p v access m =
     let e = m.executed in
-    let long = stays-long c d p v access m in
     ap state_of m.hardware.same
-    ∙ (λ i. record (state_of c) { vcpus = e.vcpus_are i; devices = e.page_is i; pages = d.pmap.pages; operations = replicate (long i) None; spares = m.hardware.spares i })
+    ∙ (λ i. record (state_of c) { vcpus = e.vcpus_are i; devices = e.page_is i; pages = d.pmap.pages; spares = m.hardware.spares i })
 
 -- the step and what is noted of it are the row
 pub executes : (c d x : Course) (p v : ℕ) (access : Access) → Made c d p v access → state_of x ≡ data_noted p access.«data» (state_of d) → StepsDirect (state_of c) p v (state_of x) access
@@ -82,7 +81,7 @@ executes c d x p v access m noted =
 pub stays : (c d : Course) (p v : ℕ) (cause : TrapCause) → Hardware c d → Untouched (outcome c p v) (parts_of c) (parts_of d) cause → state_of d ≡ state_of c
 stays c d p v cause h u =
     ap state_of h.same
-    ∙ (λ i. record (state_of c) { vcpus = u.made.vcpus_stay i; devices = u.page_stays i; pages = u.made.pages_stay i; operations = replicate (length (u.made.pages_stay i)) None; spares = h.spares i })
+    ∙ (λ i. record (state_of c) { vcpus = u.made.vcpus_stay i; devices = u.page_stays i; pages = u.made.pages_stay i; spares = h.spares i })
 
 pub traps : (c d : Course) (p v : ℕ) (cause : TrapCause) → IsSound c → MayStep (state_of c) p v → Hardware c d → Untouched (outcome c p v) (parts_of c) (parts_of d) cause → TrapsUnchanged (state_of c) p v (state_of d) cause
 traps c d p v cause sound may h u = record {
@@ -199,7 +198,7 @@ sound-after c d x p v access m n co =
       agree = rw (devs, vcpus) m.hardware.agree;
       loaded = λ r u is. subst (λ (k : ℕ). u < k) (sym count) (m.sound.loaded r u (subst (λ (l : Vec Place). (get_or (map processor_of l.items) r idle).loaded ≡ Some u) places is));
       places = rw (around, places) m.sound.places;
-      in_hand = rw hand m.sound.in_hand;
+      in_hand = rw (hand, around) m.sound.in_hand;
       going = λ _. going-after c d x p v access m n co;
     }
 
@@ -233,7 +232,7 @@ sound-stays c d p v cause sound h u =
       agree = h.agree;
       loaded = λ r w is. subst (λ (k : ℕ). w < k) (sym count) (sound.loaded r w (subst (λ (l : Vec Place). (get_or (map processor_of l.items) r idle).loaded ≡ Some w) places is));
       places = rw (around, places) sound.places;
-      in_hand = rw hand sound.in_hand;
+      in_hand = rw (hand, around) sound.in_hand;
       going = λ on.
           let going = sound.going (sym ends ∙ on) in
           record {

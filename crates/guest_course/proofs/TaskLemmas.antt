@@ -23,6 +23,7 @@ abbrev pub done_sent : Task → List ℕ → List ℕ
 done_sent (tasks.Refuse status) sent = sent
 done_sent (tasks.Read block q) sent = sent
 done_sent (tasks.Write block q) sent = sent
+done_sent (tasks.Take q) sent = sent
 done_sent (tasks.Send parcel) sent = sent ++ parcel.cell.0 ∷ []
 done_sent tasks.Skip sent = sent
 
@@ -30,6 +31,7 @@ pub sent-done : (task : Task) (cells : List CellId) → map (λ (x : CellId). x.
 sent-done (tasks.Refuse status) cells = refl
 sent-done (tasks.Read block q) cells = refl
 sent-done (tasks.Write block q) cells = refl
+sent-done (tasks.Take q) cells = refl
 sent-done (tasks.Send parcel) cells = map-append (λ (x : CellId). x.0) cells (parcel.cell ∷ [])
 sent-done tasks.Skip cells = refl
 
@@ -38,6 +40,7 @@ pub pages-long : (disk : List Block) (task : Task) (pages : List Page) → lengt
 pages-long disk (tasks.Refuse status) pages = refl
 pages-long disk (tasks.Read block q) pages = length-set pages q.0 (with_first (block_now (get_or disk block no_block)) (page_at pages q.0))
 pages-long disk (tasks.Write block q) pages = refl
+pages-long disk (tasks.Take q) pages = refl
 pages-long disk (tasks.Send parcel) pages = refl
 pages-long disk tasks.Skip pages = refl
 
@@ -63,6 +66,7 @@ may-read s v acts.DiskWrite task is clear = by (disk_status (content s) t 2 == 0
 may-read s v (acts.Send to) (tasks.Refuse status) is clear = tt
 may-read s v (acts.Send to) (tasks.Read block q) is clear = absurd is
 may-read s v (acts.Send to) (tasks.Write block q) is clear = tt
+may-read s v (acts.Send to) (tasks.Take q) is clear = tt
 may-read s v (acts.Send to) (tasks.Send parcel) is clear = tt
 may-read s v (acts.Send to) tasks.Skip is clear = tt
 
@@ -70,6 +74,7 @@ pub transfers-done : (v : ℕ) (task : Task) (d : DevicePage) → length (done_p
 transfers-done v (tasks.Refuse status) d = length-set d.transfers v (record (transfer_of d v) { status = status })
 transfers-done v (tasks.Read block q) d = length-set d.transfers v (record (transfer_of d v) { status = 0 })
 transfers-done v (tasks.Write block q) d = length-set d.transfers v (record (transfer_of d v) { status = 0 })
+transfers-done v (tasks.Take q) d = length-set d.transfers v (record (transfer_of d v) { status = 0 })
 transfers-done v (tasks.Send parcel) d = refl
 transfers-done v tasks.Skip d = refl
 
@@ -77,6 +82,7 @@ pub done-length : (task : Task) (cs : List Vcpu) → length (done_vcpus task cs)
 done-length (tasks.Refuse status) cs = refl
 done-length (tasks.Read block q) cs = length-map cs (unlinked_page q.0)
 done-length (tasks.Write block q) cs = refl
+done-length (tasks.Take q) cs = length-map cs (unlinked_page q.0)
 done-length (tasks.Send parcel) cs = refl
 done-length tasks.Skip cs = refl
 
@@ -85,6 +91,7 @@ pub pages-saved : (pages : List Page) (task : Task) (disk : List Block) → done
 pages-saved pages (tasks.Refuse status) disk = refl
 pages-saved pages (tasks.Read block q) disk = refl
 pages-saved pages (tasks.Write block q) disk = refl
+pages-saved pages (tasks.Take q) disk = refl
 pages-saved pages (tasks.Send parcel) disk = refl
 pages-saved pages tasks.Skip disk = refl
 
@@ -97,6 +104,7 @@ pub done-shown : (task : Task) (cs : List Vcpu) → map shown_by (done_vcpus tas
 done-shown (tasks.Refuse status) cs = refl
 done-shown (tasks.Read block q) cs = shown-unlinked q.0 cs
 done-shown (tasks.Write block q) cs = refl
+done-shown (tasks.Take q) cs = shown-unlinked q.0 cs
 done-shown (tasks.Send parcel) cs = refl
 done-shown tasks.Skip cs = refl
 
@@ -105,5 +113,6 @@ pub cells-done : (v : ℕ) (task : Task) (cells : List CellId) (d : DevicePage) 
 cells-done v (tasks.Refuse status) cells d e = e
 cells-done v (tasks.Read block q) cells d e = e
 cells-done v (tasks.Write block q) cells d e = e
+cells-done v (tasks.Take q) cells d e = e
 cells-done v (tasks.Send parcel) cells d e = length-append cells (parcel.cell ∷ []) ∙ ap (λ (n : ℕ). n + 1) e ∙ sym (length-append d.sent (record { to = parcel.to; bytes = parcel.bytes } ∷ []))
 cells-done v tasks.Skip cells d e = e

@@ -5,9 +5,10 @@ use Rattle.base_words.specs.declared.trap.DataAccess.{DataAccess}
 use Rattle.base_words.specs.declared.trap.DataAccess.TheVariants as access
 use Rattle.private_machine.specs.Backing.{Page}
 use Rattle.page_policy.specs.Pages.{AreCounters}
+use Rattle.wire_queue.specs.Packets.{Handed, Packet, packet_of}
 use Rattle.wire_queue.specs.declared.packet.WirePacket.{WirePacket}
 use Rattle.guest_devs.specs.Shown.{Agree}
-use Rattle.isolation_law.specs.Surroundings.{Surroundings, node_of_processor}
+use Rattle.isolation_law.specs.Surroundings.{Surroundings, node_of_processor, cell_of_frame, home_cell}
 use Rattle.isolation_law.specs.GuestState.{processor}
 use Rattle.isolation_law.specs.Coherence.{Coherent}
 use Rattle.guest_course.specs.declared.place.Place.{Place}
@@ -41,10 +42,20 @@ pub record IsSized (c : Course) : Type 0 where
   pub few_pages : length c.pmap.pages ≤ 2048
   pub cells : length c.sent_from.items ≡ length c.devs.state.page.sent
 
--- a packet in hand has no more bytes than a page
-abbrev pub FitsInHand : Option WirePacket → Type 0
-FitsInHand None = Unit {0}
-FitsInHand (Some packet) = packet.length ≤ 4096
+-- a frame that a packet hands on to a guest is one of the machine's and lies on the guest's home cell; and the packet is a whole page
+pub record IsHandedHome (around : Surroundings) (packet : Packet) (handed : Handed) : Type 0 where
+  pub full : packet.length ≡ 4096
+  pub within : handed.frame < length around.nodes * around.frames
+  pub home : cell_of_frame around handed.frame ≡ home_cell around
+
+-- a packet for a guest has no more bytes than a page
+pub record FitsHand (around : Surroundings) (packet : Packet) : Type 0 where
+  pub few : packet.length ≤ 4096
+  pub whole : (handed : Handed) → packet.whole ≡ Some handed → IsHandedHome around packet handed
+
+abbrev pub FitsInHand : Surroundings → Option WirePacket → Type 0
+FitsInHand around None = Unit {0}
+FitsInHand around (Some packet) = FitsHand around (packet_of packet)
 
 -- the virtual processors show what the devices keep; each that is loaded is there; and until the guest ends it is coherent, and each
 -- page has its counters
@@ -58,7 +69,7 @@ pub record IsSound (c : Course) : Type 0 where
   pub agree : Agree c.devs.state c.vcpus.items
   pub loaded : (p v : ℕ) → (processor (state_of c) p).loaded ≡ Some v → v < length c.vcpus.items
   pub places : AllStand (surroundings c.around) 0 c.places.items
-  pub in_hand : FitsInHand c.hand
+  pub in_hand : FitsInHand (surroundings c.around) c.hand
   pub going : c.ended ≡ None → IsGoing c
 
 -- an access of a processor to a page can be noted: both are there, with their counters

@@ -9,6 +9,7 @@ pub mod LoadCalls
 pub mod MoveCalls
 pub mod Granting
 pub mod Tasks
+pub mod Acting
 pub mod Hurdles
 pub mod RefillCalls
 pub mod EmulateCalls
@@ -18,6 +19,7 @@ pub mod Wanting
 pub mod LeavingCalls
 pub mod ReceivingCalls
 pub mod Packets
+pub mod TakingCalls
 pub mod Posting
 pub mod EndCalls
 pub mod Errands

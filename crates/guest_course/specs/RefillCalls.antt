@@ -56,6 +56,13 @@ pub record StaysNeeding (s : GuestState) (p v q : ℕ) (kind : MoveKind) (t : Gu
   pub needs : NeedsMove s q kind
   pub same : t ≡ s
 
+-- nothing has changed at all, but where a half was given
+abbrev pub StaysUnless : Refill → Course → Course → Type 0
+StaysUnless Filled c d = Unit {0}
+StaysUnless (Waits q) c d = d ≡ c
+StaysUnless (Needs q kind) c d = d ≡ c
+StaysUnless Denied c d = d ≡ c
+
 abbrev pub Serves : GuestState → ℕ → ℕ → TrapCause → GuestState → Refill → Type 0
 Serves s p v cause t Filled = Refills s p t
 Serves s p v cause t (Waits q) = StaysWaiting s p v q.0 t

@@ -39,6 +39,7 @@ abbrev pub IsSend : GuestState → ℕ → ℕ → Task → Type 0
 IsSend s v to (tasks.Refuse status) = ⊥
 IsSend s v to (tasks.Read block q) = ⊥
 IsSend s v to (tasks.Write block q) = ⊥
+IsSend s v to (tasks.Take q) = ⊥
 IsSend s v to (tasks.Send parcel) = IsParcel s v to parcel
 IsSend s v to tasks.Skip = may_send (content s) (transfer_of s.devices v) ≡ false
 
@@ -61,6 +62,7 @@ abbrev pub IsThere : ℕ → ℕ → Task → Type 0
 IsThere blocks pages (tasks.Refuse status) = Unit {0}
 IsThere blocks pages (tasks.Read block q) = (block < blocks) × (q.0 < pages)
 IsThere blocks pages (tasks.Write block q) = (block < blocks) × (q.0 < pages)
+IsThere blocks pages (tasks.Take q) = q.0 < pages
 IsThere blocks pages (tasks.Send parcel) = Unit {0}
 IsThere blocks pages tasks.Skip = Unit {0}
 
@@ -69,6 +71,7 @@ abbrev pub MayRead : List Page → Task → Type 0
 MayRead pages (tasks.Refuse status) = Unit {0}
 MayRead pages (tasks.Read block q) = IsWritable (page_at pages q.0)
 MayRead pages (tasks.Write block q) = Unit {0}
+MayRead pages (tasks.Take q) = Unit {0}
 MayRead pages (tasks.Send parcel) = Unit {0}
 MayRead pages tasks.Skip = Unit {0}
 
@@ -88,6 +91,7 @@ abbrev pub done_page : ℕ → Task → DevicePage → DevicePage
 done_page v (tasks.Refuse status) d = with_status v status d
 done_page v (tasks.Read block q) d = with_status v 0 d
 done_page v (tasks.Write block q) d = with_status v 0 d
+done_page v (tasks.Take q) d = with_status v 0 d
 done_page v (tasks.Send parcel) d = with_sent d parcel.to parcel.bytes
 done_page v tasks.Skip d = d
 
@@ -95,14 +99,17 @@ abbrev pub done_cells : Task → List CellId → List CellId
 done_cells (tasks.Refuse status) cells = cells
 done_cells (tasks.Read block q) cells = cells
 done_cells (tasks.Write block q) cells = cells
+done_cells (tasks.Take q) cells = cells
 done_cells (tasks.Send parcel) cells = cells ++ parcel.cell ∷ []
 done_cells tasks.Skip cells = cells
 
--- a block that is read comes into the page, and nobody links a line of it any more
+-- a block that is read comes into the page, and nobody links a line of it any more; nor of one into which a block comes without being
+-- copied
 abbrev pub done_pages : List Block → Task → List Page → List Page
 done_pages disk (tasks.Refuse status) pages = pages
 done_pages disk (tasks.Read block q) pages = slice_set pages q.0 (with_first (block_now (slice_index_or disk block no_block)) (page_at pages q.0))
 done_pages disk (tasks.Write block q) pages = pages
+done_pages disk (tasks.Take q) pages = pages
 done_pages disk (tasks.Send parcel) pages = pages
 done_pages disk tasks.Skip pages = pages
 
@@ -110,6 +117,7 @@ abbrev pub done_vcpus : Task → List Vcpu → List Vcpu
 done_vcpus (tasks.Refuse status) vcpus = vcpus
 done_vcpus (tasks.Read block q) vcpus = map (unlinked_page q.0) vcpus
 done_vcpus (tasks.Write block q) vcpus = vcpus
+done_vcpus (tasks.Take q) vcpus = map (unlinked_page q.0) vcpus
 done_vcpus (tasks.Send parcel) vcpus = vcpus
 done_vcpus tasks.Skip vcpus = vcpus
 
@@ -118,5 +126,6 @@ abbrev pub done_disk : List Page → Task → List Block → List Block
 done_disk pages (tasks.Refuse status) disk = disk
 done_disk pages (tasks.Read block q) disk = disk
 done_disk pages (tasks.Write block q) disk = written disk block (page_at pages q.0).master.bytes
+done_disk pages (tasks.Take q) disk = disk
 done_disk pages (tasks.Send parcel) disk = disk
 done_disk pages tasks.Skip disk = disk

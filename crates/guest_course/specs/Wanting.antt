@@ -10,10 +10,10 @@ use Rattle.guest_course.specs.declared.task.Task.TheVariants as tasks
 use Rattle.isolation_law.specs.Content.{content}
 use Rattle.isolation_law.specs.GuestState.{GuestState}
 
--- a page goes into a block, or a packet is sent
+-- a block comes into a page, or a page goes into a block, or a packet is sent
 abbrev pub TakesMemory : Act → Type 0
 TakesMemory (StoresTo q) = ⊥
-TakesMemory (ReadsDisk block q) = ⊥
+TakesMemory (ReadsDisk block q) = Unit {0}
 TakesMemory (WritesDisk block q) = Unit {0}
 TakesMemory (SendsPage q length to) = Unit {0}
 TakesMemory (WritesEntry index) = ⊥
@@ -31,5 +31,6 @@ abbrev pub Writes : Task → Type 0
 Writes (tasks.Refuse status) = ⊥
 Writes (tasks.Read block q) = ⊥
 Writes (tasks.Write block q) = Unit {0}
+Writes (tasks.Take q) = ⊥
 Writes (tasks.Send parcel) = ⊥
 Writes tasks.Skip = ⊥

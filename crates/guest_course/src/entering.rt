@@ -4,8 +4,8 @@ ghost use Rattle.guest_course.specs.declared.entering.Entry.TheVariants.{Emulate
 ghost use Rattle.guest_course.specs.CourseView.{state_of};
 ghost use Rattle.guest_course.specs.CourseRules.{IsSound};
 ghost use Rattle.guest_course.specs.StepCalls.{MayStep, TrapsFor};
-ghost use Rattle.guest_course.specs.EmulateCalls.{ReadsNoBlock};
-ghost use Rattle.guest_course.specs.EntryCalls.{Enters, GoesOnAfter};
+ghost use Rattle.guest_course.specs.EmulateCalls.{UsesNoPage};
+ghost use Rattle.guest_course.specs.EntryCalls.{Enters, GoesOnAfter, StaysWithout};
 ghost use Rattle.guest_course.specs.Packets.{SamePackets};
 
 use crate::course::Course;
@@ -42,7 +42,8 @@ impl Course {
         requires room { 0 < self.old.devs.print_room }
         ensures sound { IsSound self.new }
         ensures enters { Enters (state_of self.old) processor.0 vcpu.0 (state_of self.new) result }
-        ensures reads { result ≡ Emulate → ReadsNoBlock (state_of self.old) vcpu.0 }
+        ensures uses_none { result ≡ Emulate → UsesNoPage (state_of self.old) vcpu.0 }
+        ensures same { StaysWithout result self.old self.new }
         ensures goes_on { GoesOnAfter result (state_of self.new) }
         ensures print_room { self.old.devs.print_room ≤ self.new.devs.print_room + 1 }
         ensures send_room { self.new.devs.send_room ≡ self.old.devs.send_room }

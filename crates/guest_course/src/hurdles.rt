@@ -7,7 +7,7 @@ ghost use Rattle.guest_course.specs.CourseView.{state_of};
 ghost use Rattle.guest_course.specs.CourseRules.{IsSound};
 ghost use Rattle.guest_course.specs.EmulateCalls.{LeavesAct};
 ghost use Rattle.guest_course.specs.Hurdles.{NeedsMove, Keeps, ActKeeps, PacketKeeps};
-ghost use Rattle.guest_course.specs.Tasks.{read_page};
+ghost use Rattle.guest_course.specs.Acting.{act_of, page_used};
 
 use crate::course::Course;
 use crate::task::DONE;
@@ -54,34 +54,47 @@ impl Course {
         }
     }
 
-    /// The page into which a block comes with an act that was left, if one does.
-    fn page_read(&self, vcpu: VcpuId, act: DevAct) -> Option<Ppn>
+    /// The page to which or from which an act goes that was left, if there is one.
+    pub fn act_page(&self, vcpu: VcpuId, act: DevAct) -> Option<Ppn>
         requires { vcpu.0 < length self.now.devs.state.page.transfers }
-        ensures page { option_map (λ (page : Ppn). page.0) result ≡ read_page (state_of self.now) vcpu.0 act }
+        ensures page { option_map (λ (page : Ppn). page.0) result ≡ page_used (act_of (state_of self.now) vcpu.0 act) }
         ensures there { IfSome result (λ (page : Ppn). page.0 < length self.now.pmap.pages) }
     {
+        let transfer = self.devs.transfer(vcpu);
         match act {
-            DevAct::DiskRead => {
-                let transfer = self.devs.transfer(vcpu);
+            DevAct::DiskRead | DevAct::DiskWrite => {
                 if self.status_of(&transfer) == DONE {
                     Some(Ppn(transfer.page))
                 } else {
                     None
                 }
             }
-            DevAct::Done | DevAct::DiskWrite | DevAct::Send(_) => None,
+            DevAct::Send(_) => {
+                if self.may_send(vcpu) {
+                    Some(Ppn(transfer.send_page))
+                } else {
+                    None
+                }
+            }
+            DevAct::Done => None,
         }
     }
 
-    /// What is in the way of an act that was left: the bytes of a page into which a block comes have to be such as may change.
+    /// What is in the way of an act that was left: its page has a move, or the bytes of a page into which a block comes may not change.
     pub fn act_hurdle(&self, vcpu: VcpuId, act: DevAct) -> Hurdle
         requires sound { IsSound self.now }
         requires left { (p : ℕ) × LeavesAct (state_of self.now) p vcpu.0 act (state_of self.now) }
         ensures keeps { ActKeeps (state_of self.now) vcpu.0 act result }
     {
-        match self.page_read(vcpu, act) {
-            Some(page) => self.hurdle(page),
-            None => Hurdle::Free,
+        let Some(page) = self.act_page(vcpu, act) else {
+            return Hurdle::Free;
+        };
+        if self.pmap.open_move(page).is_some() {
+            return Hurdle::Waits(page);
+        }
+        match act {
+            DevAct::DiskRead => self.hurdle(page),
+            DevAct::Done | DevAct::DiskWrite | DevAct::Send(_) => Hurdle::Free,
         }
     }
 

@@ -11,6 +11,7 @@ ghost use Rattle.pmap_table.specs.PageMap.{with_page};
 ghost use Rattle.guest_devs.specs.DeviceCalls.{on_page};
 ghost use Rattle.guest_devs.specs.Shown.{Agree};
 ghost use Rattle.isolation_law.specs.StepRows.{IsEmulated, Emulates};
+ghost use Rattle.isolation_law.specs.Phases.{GoesOn};
 ghost use Rattle.isolation_law.specs.WireHistory.{sent_to};
 ghost use Rattle.guest_course.specs.CourseView.{state_of};
 ghost use Rattle.guest_course.specs.EmulateCalls.{LeavesAct, StaysLoaded};
@@ -45,7 +46,7 @@ fn pass_by(vcpus: &mut [Vcpu], vcpu: VcpuId)
 }
 
 /// The input joins that was to come before a step, and the instruction is passed.
-fn begin(vcpus: &mut [Vcpu], devs: &mut Devs, vcpu: VcpuId)
+pub(crate) fn begin(vcpus: &mut [Vcpu], devs: &mut Devs, vcpu: VcpuId)
     requires there { vcpu.0 < length vcpus.old }
     requires agree { Agree devs.old.state vcpus.old }
     ensures vcpus { vcpus.new ≡ passed vcpu.0 vcpus.old devs.old.state.page }
@@ -118,7 +119,7 @@ impl Course {
     }
 
     /// Does what is left of a task once a page that goes into a block stands there.
-    fn perform(&mut self, vcpu: VcpuId, task: Task)
+    pub(crate) fn perform(&mut self, vcpu: VcpuId, task: Task)
         requires vcpu { vcpu.0 < length self.old.devs.state.page.transfers }
         requires there { IsThere (length self.old.disk) (length self.old.pmap.pages) task }
         requires may { MayRead self.old.pmap.pages task }
@@ -140,6 +141,10 @@ impl Course {
                 self.devs.set_status(vcpu, DONE);
             }
             Task::Write(..) => self.devs.set_status(vcpu, DONE),
+            Task::Take(page) => {
+                unlink_page(&mut self.vcpus, page);
+                self.devs.set_status(vcpu, DONE);
+            }
             Task::Send(parcel) => self.send(parcel),
             Task::Skip => {}
         }
@@ -159,6 +164,7 @@ impl Course {
         ensures emulates { OnOk result ((p : ℕ) → IsEmulated (state_of self.old) p vcpu.0 → Emulates (state_of self.old) p vcpu.0 (state_of self.new)) }
         ensures unchanged { OnErr result (self.new ≡ self.old) }
         ensures wanting { OnErr result (MayWant (state_of self.old) vcpu.0 act) }
+        ensures goes_on { OnOk result (GoesOn (state_of self.new)) }
         ensures stays { StaysLoaded (state_of self.old) (state_of self.new) }
         ensures print_room { self.new.devs.print_room ≡ self.old.devs.print_room }
         ensures send_room { self.old.devs.send_room ≤ self.new.devs.send_room + 1 }

@@ -2,8 +2,10 @@
 ghost use Rattle.std.specs.Prelude.{◌≡◌, ◌<◌, ◌≤◌, ◌+◌, Some, None};
 ghost use Rattle.base_words.specs.declared.moves.By.{By};
 ghost use Rattle.base_words.specs.declared.moves.By.TheVariants.{Step};
+ghost use Rattle.private_machine.specs.DeviceAct.{StoresTo};
 ghost use Rattle.isolation_law.specs.MoveRows.{Asks, Begins};
 ghost use Rattle.isolation_law.specs.Phases.{GoesOn};
+ghost use Rattle.isolation_law.specs.StepAct.{at_hand};
 ghost use Rattle.guest_course.specs.CourseView.{state_of};
 ghost use Rattle.guest_course.specs.CourseRules.{IsSound};
 ghost use Rattle.guest_course.specs.EmulateCalls.{LeavesAct};
@@ -41,9 +43,9 @@ impl Course {
         row_keeps();
         if self.pmap.is_shared(page) {
             let spare = self.pmap.take_spare();
-            self.open(page, Change::Break(spare));
+            self.open(page, Change::Break(spare), None);
         } else {
-            self.open(page, Change::Collapse);
+            self.open(page, Change::Collapse, None);
         }
     }
 
@@ -55,6 +57,7 @@ impl Course {
         requires room { 0 < self.old.pmap.room }
         ensures sound { IsSound self.new }
         ensures begins { Begins (state_of self.old) page.0 kind (state_of self.old).around.home (Step processor) (state_of self.new) }
+        ensures stores { at_hand (state_of self.old) vcpu.0 ≡ StoresTo page.0 }
         ensures goes_on { GoesOn (state_of self.new) }
         ensures print_room { self.new.devs.print_room ≡ self.old.devs.print_room }
         ensures send_room { self.new.devs.send_room ≡ self.old.devs.send_room }

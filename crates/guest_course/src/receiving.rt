@@ -13,8 +13,9 @@ ghost use Rattle.guest_devs.specs.Shown.{Agree};
 ghost use Rattle.isolation_law.specs.MoveRows.{Begins};
 ghost use Rattle.isolation_law.specs.PacketRows.{ComesToHand, Receives};
 ghost use Rattle.isolation_law.specs.Phases.{GoesOn};
-ghost use Rattle.guest_course.specs.CourseView.{state_of, hand_of, got_of};
-ghost use Rattle.guest_course.specs.CourseRules.{IsSound, IsWritable};
+ghost use Rattle.wire_queue.specs.Packets.{packet_of};
+ghost use Rattle.guest_course.specs.CourseView.{surroundings, state_of, hand_of, got_of};
+ghost use Rattle.guest_course.specs.CourseRules.{FitsHand, IsSound, IsWritable};
 ghost use Rattle.guest_course.specs.EmulateCalls.{StaysLoaded};
 ghost use Rattle.guest_course.specs.Hurdles.{NeedsMove};
 ghost use Rattle.guest_course.specs.Packets.{SamePackets};
@@ -29,7 +30,7 @@ use std::alloc::{AllocError, Global};
 use wire_queue::WirePacket;
 
 /// What a guest keeps of a packet.
-fn got(alloc: Global, packet: &WirePacket) -> Result<GotPacket, AllocError>
+pub(crate) fn got(alloc: Global, packet: &WirePacket) -> Result<GotPacket, AllocError>
     requires { packet.now.length ≤ 4096 }
     ensures { IfOk result (λ kept. got_of kept ≡ hand_of packet.now) }
 {
@@ -57,7 +58,7 @@ impl Course {
         requires free { self.old.hand ≡ None }
         requires armed { (state_of self.old).devices.armed ≢ None }
         requires some { 1 ≤ packet.length }
-        requires few { packet.length ≤ 4096 }
+        requires fits { FitsHand (surroundings self.old.around) (packet_of packet) }
         requires whole { length (hand_of packet).bytes ≡ packet.length }
         ensures sound { IsSound self.new }
         ensures comes { ComesToHand (state_of self.old) (state_of self.new) }
@@ -65,6 +66,28 @@ impl Course {
     {
         row_keeps();
         self.hand = Some(packet);
+    }
+
+    /// Nobody links a line of a page any more into which a packet comes, and the devices note the packet.
+    pub(crate) fn note_packet(&mut self, page: Ppn, packet: &GotPacket)
+        requires some_vcpus { 0 < length self.old.vcpus.items }
+        requires transfers { length self.old.vcpus.items ≡ length self.old.devs.state.page.transfers }
+        requires agree { Agree self.old.devs.state self.old.vcpus.items }
+        requires armed { self.old.devs.state.page.armed ≢ None }
+        requires few { length packet.now.bytes ≤ 4096 }
+        ensures same { self.new ≡ record self.old { vcpus = self.new.vcpus; devs = self.new.devs } }
+        ensures vcpus { self.new.vcpus.items ≡ changed 0 (with_line_on 3 true) (map (unlinked_page page.0) self.old.vcpus.items) }
+        ensures devs { self.new.devs.state ≡ record self.old.devs.state { page = packet_noted packet.now.from.0 (length packet.now.bytes) self.old.devs.state.page; packet = true } }
+        ensures agree { Agree self.new.devs.state self.new.vcpus.items }
+        ensures print_room { self.new.devs.print_room ≡ self.old.devs.print_room }
+        ensures send_room { self.new.devs.send_room ≡ self.old.devs.send_room }
+    {
+        unlink_page(&mut self.vcpus, page);
+        self.devs.packet_by(
+            &mut self.vcpus,
+            packet.from,
+            packet.bytes.as_slice().len() as u32,
+        );
     }
 
     /// A packet's bytes come into a page, nobody links a line of the page any more, and the devices note the packet.
@@ -78,11 +101,8 @@ impl Course {
         ensures print_room { self.new.devs.print_room ≡ self.old.devs.print_room }
         ensures send_room { self.new.devs.send_room ≡ self.old.devs.send_room }
     {
-        let bytes = packet.bytes.as_slice();
-        self.pmap.copy_bytes_in(page, bytes);
-        unlink_page(&mut self.vcpus, page);
-        self.devs
-            .packet_by(&mut self.vcpus, packet.from, bytes.len() as u32);
+        self.pmap.copy_bytes_in(page, packet.bytes.as_slice());
+        self.note_packet(page, packet);
     }
 
     /// Begins the move that the packet in hand needs of the page that is armed for it. A break takes a spare.

@@ -12,7 +12,7 @@ ghost use Rattle.guest_course.specs.CourseRules.{IsSound};
 ghost use Rattle.guest_course.specs.StepCalls.{MayStep, TrapsFor};
 ghost use Rattle.guest_course.specs.Rebacking.{Rebacked};
 ghost use Rattle.guest_course.specs.Granting.{HasAccess, IsInRange, Grants};
-ghost use Rattle.guest_course.specs.RefillCalls.{Serves, IsFilled, MayFill};
+ghost use Rattle.guest_course.specs.RefillCalls.{Serves, IsFilled, MayFill, StaysUnless};
 ghost use Rattle.guest_course.specs.Packets.{SamePackets};
 
 use crate::course::Course;
@@ -112,6 +112,7 @@ impl Course {
         requires traps { TrapsFor (state_of self.old) processor.0 vcpu.0 cause }
         ensures sound { IsSound self.new }
         ensures serves { Serves (state_of self.old) processor.0 vcpu.0 cause (state_of self.new) result }
+        ensures stays { StaysUnless result self.old self.new }
         ensures goes_on { GoesOn (state_of self.new) }
         ensures runs { Runs (state_of self.new) processor.0 vcpu.0 }
         ensures print_room { self.new.devs.print_room ≡ self.old.devs.print_room }

@@ -10,4 +10,4 @@ no_table = record {
 }
 
 abbrev pub nothing_shared : Shared
-nothing_shared = record { table = no_table; wires = record { queues = []; terms = record { frames = 0; cells = []; homes = [] } } }
+nothing_shared = record { table = no_table; wires = record { queues = []; terms = record { frames = 0; cells = []; homes = [] } }; indexes = [] }

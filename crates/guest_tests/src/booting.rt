@@ -3,6 +3,7 @@ ghost use Rattle.std.specs.Prelude.{◌≡◌, IfOk, IfSome, None, Some, slice_g
 ghost use Rattle.std.specs.Bool.{OnTrue};
 ghost use Rattle.node_frames.specs.Layout.{layout_of};
 ghost use Rattle.machine_desc.specs.declared.machine.GuestSpec.{GuestSpec};
+ghost use Rattle.machine_desc.specs.declared.machine.Machine.{Machine};
 ghost use Rattle.machine_desc.specs.Described.{described_seen};
 ghost use Rattle.machine_desc.specs.Accepted.{IsDescribed};
 ghost use Rattle.unbuilt_keys.specs.Unbuilt.{unbuilt as first_unbuilt};
@@ -12,6 +13,7 @@ ghost use Rattle.guest_tests.specs.Ready.{HasSize, IsReady, AreReady};
 use crate::guest_lock_turns::Started;
 use crate::lane::{Lane, Size};
 use crate::pair::Pair;
+use block_caches::Caches;
 use boot_frames::{admit, needs_of};
 use cow_disk::Disk;
 use elf_image::load_raw;
@@ -113,6 +115,7 @@ fn source(alloc: Global, program: &[u32], spec: &GuestSpec) -> Result<Source, Al
         Ok(image) => Ok(Source {
             image,
             disk: Disk::new(alloc, None),
+            number: None,
         }),
         Err(_) => Err(AllocError),
     }
@@ -133,10 +136,10 @@ fn sources(
     Ok(SourceList::from_vec(both))
 }
 
-fn is_built(machine: &Machine, plan: &Plan) -> bool
-    ensures { OnTrue result (first_unbuilt (described_seen machine.now plan.now) ≡ None) }
+fn is_built(plan: &Plan) -> bool
+    ensures { (machine : Machine) → OnTrue result (first_unbuilt (described_seen machine plan.now) ≡ None) }
 {
-    unbuilt(machine, plan).is_none()
+    unbuilt(plan).is_none()
 }
 
 fn is_served(alloc: Global, machine: &Machine, plan: &Plan) -> Result<bool, AllocError>
@@ -178,7 +181,7 @@ pub(crate) fn described(
     ensures sources { IfOk result (λ all. AreSources all.0.guests all.2) }
 {
     let (machine, plan) = description(alloc, text)?;
-    if !is_built(&machine, &plan) || !is_served(alloc, &machine, &plan)? {
+    if !is_built(&plan) || !is_served(alloc, &machine, &plan)? {
         return Err(AllocError);
     }
     let sources = sources(alloc, machine.guests.as_slice(), first, second)?;
@@ -222,6 +225,7 @@ struct ReadyGuest {
 struct TwoReady {
     table: FrameTable,
     wires: Wires,
+    caches: Caches,
     first: ReadyGuest,
     second: ReadyGuest,
 }
@@ -234,21 +238,20 @@ fn booted(
     sources: SourceList,
 ) -> Result<Booted, AllocError>
     requires described { IsDescribed machine.now plan.now }
-    requires built { first_unbuilt (described_seen machine.now plan.now) ≡ None }
     requires served { AreServed (layout_of machine.now.shape) machine.now.lends machine.now.cache machine.now.guests }
     requires sources { AreSources machine.now.guests sources }
-    ensures { IfOk result (λ b. AreReady machine.now b.guests.items b.tokens (record { table = b.table; wires = b.wires })) }
+    ensures { IfOk result (λ b. AreReady machine.now b.guests.items b.tokens (record { table = b.table; wires = b.wires; indexes = b.caches.indexes.items })) }
 {
     boot(alloc, machine, plan, sources)
 }
 
 /// The first two guests of those that were booted, which have these sizes; none where there are fewer.
 fn two_of(machine: &Machine, booted: Booted, one: Size, other: Size) -> Option<TwoReady>
-    requires ready { AreReady machine.now booted.guests.items booted.tokens (record { table = booted.table; wires = booted.wires }) }
+    requires ready { AreReady machine.now booted.guests.items booted.tokens (record { table = booted.table; wires = booted.wires; indexes = booted.caches.indexes.items }) }
     requires first { HasSize machine.now 0 one.vcpus one.pages one.nodes }
     requires second { HasSize machine.now 1 other.vcpus other.pages other.nodes }
-    ensures first { IfSome result (λ two. IsReady two.first.size.vcpus two.first.size.pages two.first.size.nodes (record { table = two.table; wires = two.wires }) 0 two.first.guest two.first.token) }
-    ensures second { IfSome result (λ two. IsReady two.second.size.vcpus two.second.size.pages two.second.size.nodes (record { table = two.table; wires = two.wires }) 1 two.second.guest two.second.token) }
+    ensures first { IfSome result (λ two. IsReady two.first.size.vcpus two.first.size.pages two.first.size.nodes (record { table = two.table; wires = two.wires; indexes = two.caches.indexes.items }) 0 two.first.guest two.first.token) }
+    ensures second { IfSome result (λ two. IsReady two.second.size.vcpus two.second.size.pages two.second.size.nodes (record { table = two.table; wires = two.wires; indexes = two.caches.indexes.items }) 1 two.second.guest two.second.token) }
 {
     let _ = machine;
     let Booted {
@@ -257,11 +260,13 @@ fn two_of(machine: &Machine, booted: Booted, one: Size, other: Size) -> Option<T
         table,
         holder: _,
         wires,
+        caches,
     } = booted;
     let (first, second) = first_two(guests, tokens.into_vec())?;
     Some(TwoReady {
         table,
         wires,
+        caches,
         first: ReadyGuest {
             guest: first.0,
             token: first.1,
@@ -282,8 +287,8 @@ fn two_ready(
     first: &[u32],
     second: &[u32],
 ) -> Result<TwoReady, AllocError>
-    ensures first { IfOk result (λ two. IsReady two.first.size.vcpus two.first.size.pages two.first.size.nodes (record { table = two.table; wires = two.wires }) 0 two.first.guest two.first.token) }
-    ensures second { IfOk result (λ two. IsReady two.second.size.vcpus two.second.size.pages two.second.size.nodes (record { table = two.table; wires = two.wires }) 1 two.second.guest two.second.token) }
+    ensures first { IfOk result (λ two. IsReady two.first.size.vcpus two.first.size.pages two.first.size.nodes (record { table = two.table; wires = two.wires; indexes = two.caches.indexes.items }) 0 two.first.guest two.first.token) }
+    ensures second { IfOk result (λ two. IsReady two.second.size.vcpus two.second.size.pages two.second.size.nodes (record { table = two.table; wires = two.wires; indexes = two.caches.indexes.items }) 1 two.second.guest two.second.token) }
 {
     let (machine, plan, sources) = described(alloc, text, first, second)?;
     let (Some(one), Some(other)) = (size_at(&machine, 0), size_at(&machine, 1)) else {
@@ -295,12 +300,13 @@ fn two_ready(
 
 /// Each guest with the token of its processor, for calls without a lock.
 fn pair_of(two: TwoReady) -> Pair
-    requires first { IsReady two.first.size.vcpus two.first.size.pages two.first.size.nodes (record { table = two.table; wires = two.wires }) 0 two.first.guest two.first.token }
-    requires second { IsReady two.second.size.vcpus two.second.size.pages two.second.size.nodes (record { table = two.table; wires = two.wires }) 1 two.second.guest two.second.token }
+    requires first { IsReady two.first.size.vcpus two.first.size.pages two.first.size.nodes (record { table = two.table; wires = two.wires; indexes = two.caches.indexes.items }) 0 two.first.guest two.first.token }
+    requires second { IsReady two.second.size.vcpus two.second.size.pages two.second.size.nodes (record { table = two.table; wires = two.wires; indexes = two.caches.indexes.items }) 1 two.second.guest two.second.token }
 {
     Pair {
         table: two.table,
         wires: two.wires,
+        caches: two.caches,
         first: Lane::new(two.first.guest, two.first.token, two.first.size),
         second: Lane::new(two.second.guest, two.second.token, two.second.size),
     }
@@ -308,13 +314,14 @@ fn pair_of(two: TwoReady) -> Pair
 
 /// The first guest, for calls under a lock.
 fn started_of(two: TwoReady) -> Started
-    requires { IsReady two.first.size.vcpus two.first.size.pages two.first.size.nodes (record { table = two.table; wires = two.wires }) 0 two.first.guest two.first.token }
+    requires { IsReady two.first.size.vcpus two.first.size.pages two.first.size.nodes (record { table = two.table; wires = two.wires; indexes = two.caches.indexes.items }) 0 two.first.guest two.first.token }
 {
     Started {
         guest: two.first.guest,
         token: two.first.token,
         table: two.table,
         wires: two.wires,
+        caches: two.caches,
     }
 }
 

@@ -7,6 +7,7 @@ ghost use Rattle.guest_lock.specs.Told.{shown};
 use crate::booting::first_guest;
 use crate::guest_core_calls::{Did, PRINTS_A, kind_of};
 use base_words::{End, GuestId, VcpuId};
+use block_caches::Caches;
 use frame_words::FrameTable;
 use guest_core::{Guest, Loaded, Resources, Turn};
 use guest_lock::{GuestCell, Starts, tokens_grow};
@@ -26,11 +27,12 @@ pub(crate) struct Started {
     pub(crate) token: ProcToken,
     pub(crate) table: FrameTable,
     pub(crate) wires: Wires,
+    pub(crate) caches: Caches,
     ghost number_is: { guest.number ≡ 0 },
     ghost own_is: { guest.passes.guest.0 ≡ 0 },
     ghost goes_on: { guest.state.end ≡ None },
     ghost some: { 0 < guest.start.vcpus },
-    ghost shares: { AreOf (record { table = table; wires = wires }) guest },
+    ghost shares: { AreOf (record { table = table; wires = wires; indexes = caches.indexes.items }) guest },
     ghost board_is: { token.board ≡ guest.board },
     ghost is_processor: { token.number < length guest.start.around.processors },
     ghost unnoted: { token.notes ≡ [] },
@@ -106,13 +108,14 @@ fn try_turns<N: Starts, R: Abort + Wait>(
 ) -> Result<Guest, AllocError>
     requires starts { N.starts ≡ started.guest.start ∷ [] }
     requires board { N.board ≡ started.guest.board }
-    requires shared { N.shared ≡ record { table = started.table; wires = started.wires } }
+    requires shared { N.shared ≡ record { table = started.table; wires = started.wires; indexes = started.caches.indexes.items } }
 {
     let Started {
         guest,
         token,
         table,
         wires,
+        caches,
     } = started;
     let mut desk: Desk<N> = Desk {
         cell: GuestCell::new(guest),
@@ -123,6 +126,7 @@ fn try_turns<N: Starts, R: Abort + Wait>(
     let resources = Resources {
         table: &table,
         wires: &wires,
+        indexes: &caches.indexes,
     };
     assert_eq!(rt; desk.load(rt)?, Loaded::Done, "it is free");
     for answer in answers {

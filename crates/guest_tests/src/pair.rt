@@ -6,6 +6,7 @@ ghost use Rattle.wire_queue.specs.PassLists.{IsListOf, taking_from};
 
 use crate::lane::Lane;
 use base_words::{GuestId, NodeId, Ppn, VcpuId};
+use block_caches::Caches;
 use frame_words::FrameTable;
 use guest_core::{Asked, GuestRecord, Loaded, Packeted, Ready, Resources, Turn};
 use std::alloc::{AllocError, Global};
@@ -19,15 +20,16 @@ pub(crate) enum Side {
     Second,
 }
 
-/// The two guests, the table of their frames, and the wires between them.
+/// The two guests, the table of their frames, the wires between them, and the blocks that they share.
 #[derive(Drop)]
 pub(crate) struct Pair {
     pub(crate) table: FrameTable,
     pub(crate) wires: Wires,
+    pub(crate) caches: Caches,
     pub(crate) first: Lane,
     pub(crate) second: Lane,
-    ghost first_of: { AreOf (record { table = table; wires = wires }) first.guest },
-    ghost second_of: { AreOf (record { table = table; wires = wires }) second.guest },
+    ghost first_of: { AreOf (record { table = table; wires = wires; indexes = caches.indexes.items }) first.guest },
+    ghost second_of: { AreOf (record { table = table; wires = wires; indexes = caches.indexes.items }) second.guest },
 }
 
 impl Pair {
@@ -57,6 +59,7 @@ impl Pair {
         let resources = Resources {
             table: &self.table,
             wires: &self.wires,
+            indexes: &self.caches.indexes,
         };
         match side {
             Side::First => self.first.turn(rt, alloc, &resources),
@@ -75,6 +78,7 @@ impl Pair {
         let resources = Resources {
             table: &self.table,
             wires: &self.wires,
+            indexes: &self.caches.indexes,
         };
         match side {
             Side::First => self.first.ask(alloc, page, node, &resources),
@@ -91,6 +95,7 @@ impl Pair {
         let resources = Resources {
             table: &self.table,
             wires: &self.wires,
+            indexes: &self.caches.indexes,
         };
         match side {
             Side::First => self.first.ask_due(alloc, &resources),
@@ -103,6 +108,7 @@ impl Pair {
         let resources = Resources {
             table: &self.table,
             wires: &self.wires,
+            indexes: &self.caches.indexes,
         };
         match side {
             Side::First => self.first.finish_ready(page, &resources),
@@ -120,6 +126,7 @@ impl Pair {
         let resources = Resources {
             table: &self.table,
             wires: &self.wires,
+            indexes: &self.caches.indexes,
         };
         match side {
             Side::First => self.first.packet_in(rt, alloc, &resources),
@@ -163,12 +170,14 @@ impl Pair {
         let Pair {
             table,
             wires,
+            caches,
             first,
             second,
         } = self;
         let resources = Resources {
             table: &table,
             wires: &wires,
+            indexes: &caches.indexes,
         };
         let (record, _) = first.finish(&resources)?;
         let (other, passes) = second.finish(&resources)?;

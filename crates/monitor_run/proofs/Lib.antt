@@ -4,3 +4,4 @@ pub mod SourceLemmas
 pub mod MonitoredLemmas
 pub mod Statuses
 pub mod TextRuns
+pub mod MadeRuns

@@ -1,5 +1,5 @@
 -- Guests under the monitor: how they are booted, and that each is its private machine.
-use Rattle.std.proofs.Common.{◌≡◌, ℕ, suc, ◌*◌, ◌<◌, ◌≤◌, List, [], ◌∷◌, length, ap, sym, ◌∙◌, subst, arith}
+use Rattle.std.proofs.Common.{◌≡◌, ℕ, suc, ◌*◌, ◌<◌, ◌≤◌, List, [], ◌∷◌, Option, length, map, ap, sym, ◌∙◌, subst, arith}
 use Rattle.std.specs.List.{AllByRecursion as ByRecursion}
 use Rattle.std.specs.Prelude.{slice_index_or}
 use Rattle.std.proofs.lemmas.List.{length-map}
@@ -24,18 +24,18 @@ use Rattle.run_workers.specs.Starting.{AreStarts, IsStart}
 use Rattle.run_workers.specs.WholeRecord.{AreRecords, IsWhole}
 use Rattle.admission.specs.Starts.{Start}
 use Rattle.admission.specs.Started.{AreStarted, IsStarted}
-use Rattle.admission.specs.Views.{image_seen, paired}
+use Rattle.admission.specs.Views.{disk_numbered, image_seen, paired}
 use Rattle.monitor_run.specs.Monitored.{AreBooted, IsBooted, ArePrivate, IsPrivate, IsRun}
 use Rattle.monitor_run.specs.Sources.{source_of, sources_of}
 use Rattle.monitor_run.proofs.SourceLemmas.{given_blocks-as_given}
 
 -- ---- starts
 
-IsBooted-from : (d : Described) (guest : ℕ) (spec : GuestSpec) (image : Image) (disk : List (List ℕ)) (input : List InputEntry) (b : Boot) → length d.processors ≤ 16 → IsGuest d.nodes spec
-    → IsStarted spec (record { image = image_seen image; disk = disk }) → IsStart d guest spec (source_of image disk) input b → IsBooted d guest spec (record { image = image_seen image; disk = disk }) input b
-IsBooted-from d guest spec image disk input b few is started start =
+IsBooted-from : (d : Described) (guest : ℕ) (spec : GuestSpec) (disks : List (List (List ℕ))) (image : Image) (number : Option ℕ) (input : List InputEntry) (b : Boot) → length d.processors ≤ 16 → IsGuest d.nodes spec
+    → IsStarted spec (record { image = image_seen image; disk = disk_numbered disks number }) → IsStart d guest spec (source_of disks image number) input b → IsBooted d guest spec (record { image = image_seen image; disk = disk_numbered disks number }) input b
+IsBooted-from d guest spec disks image number input b few is started start =
     let pages : spec.pages ≡ b.image.pages = sym started.pages ∙ sym (ap (λ (i : Given). i.pages) start.image_is) in
-    let disk-is = start.disk_is ∙ given_blocks-as_given disk in
+    let disk-is = start.disk_is ∙ given_blocks-as_given (disk_numbered disks number) in
     record {
       around = start.around;
       image = start.image_is;
@@ -57,19 +57,19 @@ AreBoots [] = Unit {0}
 AreBoots (b ∷ boots) = IsBoot b × AreBoots boots
 
 module _ (d : Described) where
-  AreBooted-from : (guest : ℕ) (specs : List GuestSpec) (images : List Image) (disks : List (List (List ℕ))) (inputs : List (List InputEntry)) (boots : List Boot) → length d.processors ≤ 16 → ByRecursion (IsGuest d.nodes) specs → length images ≡ length disks
-      → AreStarted specs (paired images disks) → AreStarts d guest specs (sources_of images disks) inputs boots → AreBooted d guest specs (paired images disks) inputs boots
-  AreBooted-from guest [] [] disks [] [] few is same are starts = tt
-  AreBooted-from guest [] [] disks [] (b ∷ boots) few is same are starts = absurd starts
-  AreBooted-from guest [] [] disks (input ∷ inputs) boots few is same are starts = absurd starts
-  AreBooted-from guest [] (image ∷ images) [] inputs boots few is same are starts = absurd (omega (arith, same))
-  AreBooted-from guest [] (image ∷ images) (disk ∷ disks) inputs boots few is same are starts = absurd are
-  AreBooted-from guest (spec ∷ specs) [] disks inputs boots few is same are starts = absurd are
-  AreBooted-from guest (spec ∷ specs) (image ∷ images) [] inputs boots few is same are starts = absurd are
-  AreBooted-from guest (spec ∷ specs) (image ∷ images) (disk ∷ disks) [] boots few is same are starts = absurd starts
-  AreBooted-from guest (spec ∷ specs) (image ∷ images) (disk ∷ disks) (input ∷ inputs) [] few is same are starts = absurd starts
-  AreBooted-from guest (spec ∷ specs) (image ∷ images) (disk ∷ disks) (input ∷ inputs) (b ∷ boots) few is same are starts =
-      (IsBooted-from d guest spec image disk input b few is.0 are.0 starts.0, AreBooted-from (suc guest) specs images disks inputs boots few is.1 (omega (arith, same)) are.1 starts.1)
+  AreBooted-from : (disks : List (List (List ℕ))) (guest : ℕ) (specs : List GuestSpec) (images : List Image) (numbers : List (Option ℕ)) (inputs : List (List InputEntry)) (boots : List Boot) → length d.processors ≤ 16 → ByRecursion (IsGuest d.nodes) specs → length images ≡ length numbers
+      → AreStarted specs (paired images (map (disk_numbered disks) numbers)) → AreStarts d guest specs (sources_of disks images numbers) inputs boots → AreBooted d guest specs (paired images (map (disk_numbered disks) numbers)) inputs boots
+  AreBooted-from disks guest [] [] numbers [] [] few is same are starts = tt
+  AreBooted-from disks guest [] [] numbers [] (b ∷ boots) few is same are starts = absurd starts
+  AreBooted-from disks guest [] [] numbers (input ∷ inputs) boots few is same are starts = absurd starts
+  AreBooted-from disks guest [] (image ∷ images) [] inputs boots few is same are starts = absurd (omega (arith, same))
+  AreBooted-from disks guest [] (image ∷ images) (n ∷ numbers) inputs boots few is same are starts = absurd are
+  AreBooted-from disks guest (spec ∷ specs) [] numbers inputs boots few is same are starts = absurd are
+  AreBooted-from disks guest (spec ∷ specs) (image ∷ images) [] inputs boots few is same are starts = absurd are
+  AreBooted-from disks guest (spec ∷ specs) (image ∷ images) (n ∷ numbers) [] boots few is same are starts = absurd starts
+  AreBooted-from disks guest (spec ∷ specs) (image ∷ images) (n ∷ numbers) (input ∷ inputs) [] few is same are starts = absurd starts
+  AreBooted-from disks guest (spec ∷ specs) (image ∷ images) (n ∷ numbers) (input ∷ inputs) (b ∷ boots) few is same are starts =
+      (IsBooted-from d guest spec disks image n input b few is.0 are.0 starts.0, AreBooted-from disks (suc guest) specs images numbers inputs boots few is.1 (omega (arith, same)) are.1 starts.1)
 
   -- ---- private machines
 
@@ -101,10 +101,10 @@ module _ (d : Described) where
     ArePrivate-from (b ∷ bs) (s ∷ states) (guest ∷ guests) boots left = (IsPrivate-from b s guest boots.0 left.0, ArePrivate-from bs states guests boots.1 left.1)
 
     -- a whole record is one of guests that each ran as their private machines do
-    pub IsRun-from : (images : List Image) (disks : List (List (List ℕ))) (boots : List Boot) (out : RunRecord) → IsAccepted d → length images ≡ length disks → AreStarted d.guests (paired images disks)
-        → AreStarts d 0 d.guests (sources_of images disks) d.input boots → IsWhole d boots out → IsRun d (paired images disks) out
-    IsRun-from images disks boots out accepted same started starts whole =
+    pub IsRun-from : (disks : List (List (List ℕ))) (images : List Image) (numbers : List (Option ℕ)) (boots : List Boot) (out : RunRecord) → IsAccepted d → length images ≡ length numbers → AreStarted d.guests (paired images (map (disk_numbered disks) numbers))
+        → AreStarts d 0 d.guests (sources_of disks images numbers) d.input boots → IsWhole d boots out → IsRun d (paired images (map (disk_numbered disks) numbers)) out
+    IsRun-from disks images numbers boots out accepted same started starts whole =
         let are = recursion_from_All (IsGuest d.nodes) d.guests accepted.guests in
-        let booted = AreBooted-from 0 d.guests images disks d.input boots accepted.few_processors are same started starts in
-        let sound = AreBoots-from 0 d.guests (paired images disks) d.input boots booted in
+        let booted = AreBooted-from disks 0 d.guests images numbers d.input boots accepted.few_processors are same started starts in
+        let sound = AreBoots-from 0 d.guests (paired images (map (disk_numbered disks) numbers)) d.input boots booted in
         record { boots = boots; booted = booted; whole = whole; private = ArePrivate-from boots whole.states out.guests sound whole.guests }

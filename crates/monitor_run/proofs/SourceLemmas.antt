@@ -1,5 +1,5 @@
 -- What guests are started from: their images, and their disks by number.
-use Rattle.std.proofs.Common.{◌≡◌, ◌∙◌, ℕ, zero, suc, ◌<◌, ◌≤◌, List, [], ◌∷◌, ◌++◌, map, length, get_or, Option, Some, refl, ap, sym, subst, length-append, arith}
+use Rattle.std.proofs.Common.{◌≡◌, ◌∙◌, ℕ, zero, suc, ◌<◌, ◌≤◌, List, [], ◌∷◌, ◌++◌, map, length, get_or, Option, None, Some, refl, ap, sym, subst, length-append, arith}
 use Rattle.std.specs.List.{AllByRecursion as ByRecursion}
 use Rattle.std.specs.Prelude.{All}
 use Rattle.std.specs.Arc.{arc_value}
@@ -24,12 +24,12 @@ given_blocks-as_given [] = refl
 given_blocks-as_given (block ∷ disk) = ap (λ (l : List (List ℕ)). block ∷ l) (given_blocks-as_given disk)
 
 -- the source of the image behind the first ones has the disk of its place
-pub sources_of-next : (images : List Image) (disks : List (List (List ℕ))) (image : Image) (disk : List (List ℕ)) → length images < length disks → disk ≡ get_or disks (length images) []
-    → sources_of (images ++ image ∷ []) disks ≡ sources_of images disks ++ source_of image disk ∷ []
-sources_of-next [] [] image disk there is = absurd (omega (arith, there))
-sources_of-next [] (d ∷ disks) image disk there is = ap (λ (x : List (List ℕ)). source_of image x ∷ []) (sym is)
-sources_of-next (i ∷ images) [] image disk there is = absurd (omega (arith, there))
-sources_of-next (i ∷ images) (d ∷ disks) image disk there is = ap (λ (l : List Source). source_of i d ∷ l) (sources_of-next images disks image disk (omega (arith, there)) is)
+pub sources_of-next : (disks : List (List (List ℕ))) (images : List Image) (numbers : List (Option ℕ)) (image : Image) (number : Option ℕ) → length images < length numbers → number ≡ get_or numbers (length images) None
+    → sources_of disks (images ++ image ∷ []) numbers ≡ sources_of disks images numbers ++ source_of disks image number ∷ []
+sources_of-next disks [] [] image number there is = absurd (omega (arith, there))
+sources_of-next disks [] (n ∷ numbers) image number there is = ap (λ (x : Option ℕ). source_of disks image x ∷ []) (sym is)
+sources_of-next disks (i ∷ images) [] image number there is = absurd (omega (arith, there))
+sources_of-next disks (i ∷ images) (n ∷ numbers) image number there is = ap (λ (l : List Source). source_of disks i n ∷ l) (sources_of-next disks images numbers image number (omega (arith, there)) is)
 
 -- an image that comes behind the first ones is one of all
 pub image-there : (all images left behind : List Image) (image : Image) → images ++ left ≡ all → left ≡ image ∷ behind → length images < length all
@@ -51,22 +51,23 @@ pub few-started : (specs : List GuestSpec) (images : List Image) (f : Option ℕ
 few-started specs images f numbers same are = All-from_recursion (λ (number : Option ℕ). length (f number) ≤ 1024) numbers (few_by_number specs images f numbers same are)
 
 -- each guest that starts has an image of its pages, and a disk of whole blocks
-IsSource-started : (spec : GuestSpec) (image : Image) (disk : List (List ℕ)) → IsStarted spec (record { image = image_seen image; disk = disk }) → IsSource spec (source_of image disk)
-IsSource-started spec image disk started =
-    let same = sym (given_blocks-as_given disk) in
+IsSource-started : (disks : List (List (List ℕ))) (spec : GuestSpec) (image : Image) (number : Option ℕ) → IsStarted spec (record { image = image_seen image; disk = disk_numbered disks number }) → IsSource spec (source_of disks image number)
+IsSource-started disks spec image number started =
+    let same = sym (given_blocks-as_given (disk_numbered disks number)) in
     record {
       pages = started.pages;
       unwritten = ap (λ (l : List (List ℕ)). map as_given l) same;
       blocks = subst (λ (l : List (List ℕ)). (k : ℕ) → k < length l → length (get_or l k []) ≡ 4096) same started.blocks;
     }
 
-pub AreSources-started : (specs : List GuestSpec) (images : List Image) (disks : List (List (List ℕ))) → length images ≡ length disks → AreStarted specs (paired images disks) → AreSources specs (sources_of images disks)
-AreSources-started [] [] disks same are = tt
-AreSources-started [] (image ∷ images) [] same are = absurd (omega (arith, same))
-AreSources-started [] (image ∷ images) (disk ∷ disks) same are = absurd are
-AreSources-started (spec ∷ specs) [] disks same are = absurd are
-AreSources-started (spec ∷ specs) (image ∷ images) [] same are = absurd are
-AreSources-started (spec ∷ specs) (image ∷ images) (disk ∷ disks) same are = (IsSource-started spec image disk are.0, AreSources-started specs images disks (omega (arith, same)) are.1)
+pub AreSources-started : (disks : List (List (List ℕ))) (specs : List GuestSpec) (images : List Image) (numbers : List (Option ℕ)) → length images ≡ length numbers → AreStarted specs (paired images (map (disk_numbered disks) numbers))
+    → AreSources specs (sources_of disks images numbers)
+AreSources-started disks [] [] numbers same are = tt
+AreSources-started disks [] (image ∷ images) [] same are = absurd (omega (arith, same))
+AreSources-started disks [] (image ∷ images) (n ∷ numbers) same are = absurd are
+AreSources-started disks (spec ∷ specs) [] numbers same are = absurd are
+AreSources-started disks (spec ∷ specs) (image ∷ images) [] same are = absurd are
+AreSources-started disks (spec ∷ specs) (image ∷ images) (n ∷ numbers) same are = (IsSource-started disks spec image n are.0, AreSources-started disks specs images numbers (omega (arith, same)) are.1)
 
 -- the blocks of a number are those of the base that stands there, and none where there is none
 pub blocks_at : (bases : List (Arc (List (Box Page)) Global)) (n : ℕ) (d : Arc (List (Box Page)) Global) → n < length bases → disk_numbered (shared_blocks bases) (Some n) ≡ bytes_of (arc_value (get_or bases n d))

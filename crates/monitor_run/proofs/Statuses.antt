@@ -9,7 +9,7 @@ use Rattle.admission.specs.declared.faults.Fault.{Fault}
 use Rattle.admission.specs.declared.faults.Fault.TheVariants.{Words, Read, Long, Asm, Description, BadImage, Unbuilt, CacheAdmission, Admission}
 use Rattle.admission.specs.Chain.{Files}
 use Rattle.admission.specs.Texts.{RefusesLine}
-use Rattle.admission.specs.Jobs.{Job, Monitored, Alone, Litmus, Listing, job_of}
+use Rattle.admission.specs.Jobs.{Job, Monitored, Alone, Print, Litmus, Listing, job_of}
 use Rattle.admission.specs.Ready.{AreGiven}
 use Rattle.admission.specs.Stages.{FailedAt}
 use Rattle.admission.specs.Steady.{Extends, IsSteady, NeverReads}
@@ -20,17 +20,13 @@ use Rattle.litmus_file.specs.Reads.{Read as LitmusRead}
 use Rattle.litmus_file.specs.File.{litmus_of}
 use Rattle.litmus_run.specs.Command.{Answers as LitmusAnswers}
 use Rattle.monitor_run.specs.Ends.{Ends, Runs}
-use Rattle.monitor_run.specs.Exactly.{AreTold, Failed, FailedFile, IsExactly, RefusedLitmus, RefusedText, due_status, litmus_status}
+use Rattle.monitor_run.specs.Exactly.{AreTold, Failed, FailedFile, IsExactly, OrFails, RefusedLitmus, RefusedText, due_status, litmus_status}
 use Rattle.monitor_run.specs.FaultLines.{status_of}
 use Rattle.monitor_run.specs.Headline.{Answers, IsRead}
 
 -- ---- one call's end
 
--- the status that is due, or want of memory, or a failed output
-abbrev OrFails : ℕ → SinkView → SinkView → ℕ → Type 0
-OrFails due c d status = (status ≡ due) ⊎ ((status ≡ 1) ⊎ ((status ≡ 4) × Rose c.faults d.faults))
-
-runs_status : (job : Job) (c d : SinkView) (out : RunRecord) (status : ℕ) → Runs job c d out status → OrFails 0 c d status
+pub runs_status : (job : Job) (c d : SinkView) (out : RunRecord) (status : ℕ) → Runs job c d out status → OrFails 0 c d status
 runs_status job c d out status (inl completes) = inl completes.answer
 runs_status job c d out status (inr (inl unwritten)) = inr (inr (unwritten.answer, unwritten.sink.rose))
 runs_status job c d out status (inr (inr wants)) = inr (inl wants.1.answer)
@@ -47,6 +43,7 @@ answers_status (Err fault) c d status (inr wants) = inr (inl wants.answer)
 ends_status : (r : Result Job Fault) (c d : SinkView) (out : RunRecord) (status : ℕ) → Ends r c d out status → OrFails (due_status r) c d status
 ends_status (Ok (Monitored m starts sums)) c d out status runs = runs_status (Monitored m starts sums) c d out status runs
 ends_status (Ok (Alone m starts)) c d out status runs = runs_status (Alone m starts) c d out status runs
+ends_status (Ok (Print made)) c d out status runs = runs_status (Print made) c d out status runs
 ends_status (Ok (Listing assembly)) c d out status runs = runs_status (Listing assembly) c d out status runs
 ends_status (Ok (Litmus bytes)) c d out status (empty, answers) = answers_status (litmus_of bytes) c d status answers
 ends_status (Err fault) c d out status (empty, inl refuses) = inl refuses.answer
@@ -69,6 +66,7 @@ litmus_ten (Err fault) is = (fault, refl)
 due_two : (r : Result Job Fault) → due_status r ≡ 2 → r ≡ Err Words
 due_two (Ok (Monitored m starts sums)) is = absurd (omega (arith, is))
 due_two (Ok (Alone m starts)) is = absurd (omega (arith, is))
+due_two (Ok (Print made)) is = absurd (omega (arith, is))
 due_two (Ok (Listing assembly)) is = absurd (omega (arith, is))
 due_two (Ok (Litmus bytes)) is = absurd (litmus_not (litmus_of bytes) 2 (omega arith) (omega arith) is)
 due_two (Err Words) is = refl
@@ -84,6 +82,7 @@ due_two (Err (Admission guest needs has)) is = absurd (omega (arith, is))
 due_three : (r : Result Job Fault) → due_status r ≡ 3 → (name : List ℕ) × (r ≡ Err (Read name))
 due_three (Ok (Monitored m starts sums)) is = absurd (omega (arith, is))
 due_three (Ok (Alone m starts)) is = absurd (omega (arith, is))
+due_three (Ok (Print made)) is = absurd (omega (arith, is))
 due_three (Ok (Listing assembly)) is = absurd (omega (arith, is))
 due_three (Ok (Litmus bytes)) is = absurd (litmus_not (litmus_of bytes) 3 (omega arith) (omega arith) is)
 due_three (Err Words) is = absurd (omega (arith, is))
@@ -99,6 +98,7 @@ due_three (Err (Admission guest needs has)) is = absurd (omega (arith, is))
 not_four : (r : Result Job Fault) → due_status r ≡ 4 → ⊥
 not_four (Ok (Monitored m starts sums)) is = omega (arith, is)
 not_four (Ok (Alone m starts)) is = omega (arith, is)
+not_four (Ok (Print made)) is = omega (arith, is)
 not_four (Ok (Listing assembly)) is = omega (arith, is)
 not_four (Ok (Litmus bytes)) is = litmus_not (litmus_of bytes) 4 (omega arith) (omega arith) is
 not_four (Err Words) is = omega (arith, is)
@@ -114,6 +114,7 @@ not_four (Err (Admission guest needs has)) is = omega (arith, is)
 due_nine : (r : Result Job Fault) → due_status r ≡ 9 → (line : ℕ) × (cause : AsmCause) × (r ≡ Err (Asm line cause))
 due_nine (Ok (Monitored m starts sums)) is = absurd (omega (arith, is))
 due_nine (Ok (Alone m starts)) is = absurd (omega (arith, is))
+due_nine (Ok (Print made)) is = absurd (omega (arith, is))
 due_nine (Ok (Listing assembly)) is = absurd (omega (arith, is))
 due_nine (Ok (Litmus bytes)) is = absurd (litmus_not (litmus_of bytes) 9 (omega arith) (omega arith) is)
 due_nine (Err Words) is = absurd (omega (arith, is))
@@ -129,6 +130,7 @@ due_nine (Err (Admission guest needs has)) is = absurd (omega (arith, is))
 due_ten : (r : Result Job Fault) → due_status r ≡ 10 → (bytes : List ℕ) × (r ≡ Ok (Litmus bytes)) × (fault : LitmusFault) × (litmus_of bytes ≡ Err fault)
 due_ten (Ok (Monitored m starts sums)) is = absurd (omega (arith, is))
 due_ten (Ok (Alone m starts)) is = absurd (omega (arith, is))
+due_ten (Ok (Print made)) is = absurd (omega (arith, is))
 due_ten (Ok (Listing assembly)) is = absurd (omega (arith, is))
 due_ten (Ok (Litmus bytes)) is = (let found = litmus_ten (litmus_of bytes) is in (bytes, refl, found.0, found.1))
 due_ten (Err Words) is = absurd (omega (arith, is))

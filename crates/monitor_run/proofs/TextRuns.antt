@@ -15,6 +15,7 @@ use Rattle.monitor_run.specs.FaultLines.{status_of}
 use Rattle.monitor_run.specs.Headline.{Answers}
 use Rattle.monitor_run.specs.Monitored.{IsRun}
 use Rattle.monitor_run.specs.TextRuns.{RunsText}
+use Rattle.monitor_run.proofs.EndLemmas.{Runs-completed}
 
 -- no refusal has status 0
 refusal-some : (fault : Fault) → status_of fault ≢ 0
@@ -34,9 +35,7 @@ module _ (c d : SinkView) (out : RunRecord) (status : ℕ) (zero : status ≡ 0)
   refused-never fault (empty, inr wants) = (let one : status ≡ 1 = wants.answer in omega (arith, one, zero))
 
   done : (job : Job) → Runs job c d out status → IsDone job out
-  done job (inl completes) = completes.done
-  done job (inr (inl unwritten)) = absurd (let four : status ≡ 4 = unwritten.answer in omega (arith, four, zero))
-  done job (inr (inr wants)) = absurd (let one : status ≡ 1 = wants.1.answer in omega (arith, one, zero))
+  done job runs = (Runs-completed job c d out status zero runs).done
 
   -- what a text is assembled to
   abbrev RunsAs : List ℕ → ℕ → Type 0

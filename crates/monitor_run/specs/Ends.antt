@@ -6,9 +6,10 @@ use Rattle.outside_io.specs.Writing.{SinkView, Settles, Breaks, Starves}
 use Rattle.guest_core.specs.declared.records.RunRecord.{RunRecord}
 use Rattle.admission.specs.declared.faults.Fault.{Fault}
 use Rattle.guest_asm.specs.Listing.{listing_of}
-use Rattle.admission.specs.Jobs.{Job, Monitored, Alone, Litmus, Listing}
+use Rattle.admission.specs.Jobs.{Job, Monitored, Alone, Print, Litmus, Listing}
 use Rattle.litmus_file.specs.File.{litmus_of}
 use Rattle.litmus_run.specs.Command.{Answers}
+use Rattle.run_report.specs.MadeText.{made_text}
 use Rattle.run_report.specs.Report.{report_text, alone_report}
 use Rattle.monitor_run.specs.Alone.{alone_of}
 use Rattle.monitor_run.specs.FaultLines.{fault_line, status_of}
@@ -18,10 +19,11 @@ use Rattle.monitor_run.specs.Monitored.{IsRun}
 abbrev pub nothing : RunRecord
 nothing = record { guests = []; slices = []; failures = [] }
 
--- the record of a job that is done; guests that run alone leave none, and nor does a listing
+-- the record of a job that is done; guests that run alone leave none, and nor does what is printed
 abbrev pub IsDone : Job → RunRecord → Type 0
 IsDone (Monitored d starts sums) out = IsRun d starts out
 IsDone (Alone d starts) out = out ≡ nothing
+IsDone (Print made) out = out ≡ nothing
 IsDone (Litmus bytes) out = ⊥
 IsDone (Listing assembly) out = out ≡ nothing
 
@@ -29,6 +31,7 @@ IsDone (Listing assembly) out = out ≡ nothing
 abbrev pub report : Job → RunRecord → List ℕ
 report (Monitored d starts sums) out = report_text sums out
 report (Alone d starts) out = alone_report (alone_of d starts)
+report (Print made) out = made_text made
 report (Litmus bytes) out = []
 report (Listing assembly) out = listing_of assembly
 
@@ -64,7 +67,7 @@ pub record Refuses (fault : Fault) (old new : SinkView) (status : ℕ) : Type 0 
 abbrev pub Tells : Fault → SinkView → SinkView → ℕ → Type 0
 Tells fault old new status = Refuses fault old new status ⊎ Wants (fault_line fault) old new status
 
--- guests run, under the monitor or alone, or a listing is printed
+-- guests run, under the monitor or alone, or what is made or assembled is printed
 abbrev pub Runs : Job → SinkView → SinkView → RunRecord → ℕ → Type 0
 Runs job old new out status =
     Completes job old new out status ⊎ (Unwritten job old new out status
@@ -74,6 +77,7 @@ Runs job old new out status =
 abbrev pub Ends : Result Job Fault → SinkView → SinkView → RunRecord → ℕ → Type 0
 Ends (Ok (Monitored d starts sums)) old new out status = Runs (Monitored d starts sums) old new out status
 Ends (Ok (Alone d starts)) old new out status = Runs (Alone d starts) old new out status
+Ends (Ok (Print made)) old new out status = Runs (Print made) old new out status
 Ends (Ok (Listing assembly)) old new out status = Runs (Listing assembly) old new out status
 Ends (Ok (Litmus bytes)) old new out status = (out ≡ nothing) × Answers (litmus_of bytes) old new status
 Ends (Err fault) old new out status = (out ≡ nothing) × Tells fault old new status

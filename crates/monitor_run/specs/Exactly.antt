@@ -1,5 +1,5 @@
 -- When each status comes, gathered from the claim.
-use Rattle.std.specs.Prelude.{◌≡◌, ◌⊎◌, ℕ, List, Some, Result, Ok, Err}
+use Rattle.std.specs.Prelude.{◌≡◌, ◌⊎◌, ℕ, List, Option, Some, None, Result, Ok, Err}
 use Rattle.base_words.specs.Counts.{Rose}
 use Rattle.outside_io.specs.Reading.{ShelfView, Holds}
 use Rattle.outside_io.specs.Writing.{SinkView}
@@ -7,10 +7,11 @@ use Rattle.admission.specs.declared.faults.Fault.{Fault}
 use Rattle.guest_asm.specs.declared.fault.AsmCause.{AsmCause}
 use Rattle.admission.specs.declared.faults.Fault.TheVariants.{Read}
 use Rattle.admission.specs.Chain.{Files}
-use Rattle.admission.specs.Jobs.{Job, Monitored, Alone, Litmus, Listing, job_of}
+use Rattle.admission.specs.Jobs.{Job, Monitored, Alone, Print, Litmus, Listing, job_of}
 use Rattle.admission.specs.Ready.{AreGiven}
 use Rattle.admission.specs.Stages.{FailedAt}
 use Rattle.admission.specs.Texts.{RefusesLine}
+use Rattle.admission.specs.Words.{Form, Raw, Machine, Private, Make, Load, Litmus as LitmusForm, Asm, AsmSteps}
 use Rattle.page_slots.specs.declared.op.Litmus.{Litmus as Accesses}
 use Rattle.litmus_file.specs.declared.fault.LitmusFault.{LitmusFault}
 use Rattle.litmus_file.specs.Reads.{Read as LitmusRead}
@@ -30,9 +31,14 @@ litmus_status (Err fault) = 10
 abbrev pub due_status : Result Job Fault → ℕ
 due_status (Ok (Monitored d starts sums)) = 0
 due_status (Ok (Alone d starts)) = 0
+due_status (Ok (Print made)) = 0
 due_status (Ok (Listing assembly)) = 0
 due_status (Ok (Litmus bytes)) = litmus_status (litmus_of bytes)
 due_status (Err fault) = status_of fault
+
+-- the status that is due, or want of memory, or a failed output
+abbrev pub OrFails : ℕ → SinkView → SinkView → ℕ → Type 0
+OrFails due sink sink_after status = (status ≡ due) ⊎ ((status ≡ 1) ⊎ ((status ≡ 4) × Rose sink.faults sink_after.faults))
 
 -- the shelf failed at some name
 abbrev pub Failed : ShelfView → ShelfView → Type 0
@@ -67,3 +73,15 @@ pub record RefusedText (words : List (List ℕ)) (old new : ShelfView) : Type 0 
 abbrev pub IsExactly : ℕ → ShelfView → ShelfView → SinkView → SinkView → ℕ → Type 0
 IsExactly due shelf shelf_after sink sink_after status =
     (status ≡ due) ⊎ ((status ≡ 1) ⊎ (((status ≡ 3) × Failed shelf shelf_after) ⊎ ((status ≡ 4) × Rose sink.faults sink_after.faults)))
+
+-- a form that takes a number, from which all is made, and names no file
+abbrev pub IsMade : Option Form → Type 0
+IsMade (Some (Make seed)) = Unit {0}
+IsMade (Some (Load seed)) = Unit {0}
+IsMade (Some (Raw file steps)) = ⊥
+IsMade (Some (Machine file)) = ⊥
+IsMade (Some (Private file)) = ⊥
+IsMade (Some (LitmusForm file)) = ⊥
+IsMade (Some (Asm file)) = ⊥
+IsMade (Some (AsmSteps file steps)) = ⊥
+IsMade None = ⊥

@@ -59,7 +59,6 @@ cause_text cause.Place = codes "place"
 
 -- the path of a key that isn't built
 abbrev pub key_text : UnbuiltKey → List ℕ
-key_text key.Cache = codes "machine.cache"
 key_text (key.Act item) = codes "work[" ++ (decimal item ++ codes "].act")
 
 abbrev pub fault_line : Fault → List ℕ

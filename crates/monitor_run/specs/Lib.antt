@@ -6,3 +6,4 @@ pub mod Ends
 pub mod Headline
 pub mod Exactly
 pub mod TextRuns
+pub mod MadeRuns

@@ -108,7 +108,6 @@ fn key_text(alloc: Global, key: UnbuiltKey) -> Result<String, AllocError>
     ensures { IfOk result (λ text. string_bytes text ≡ key_text_of key) }
 {
     match key {
-        UnbuiltKey::Cache => String::from_str(alloc, "machine.cache"),
         UnbuiltKey::Act(item) => format!(in alloc; "work[{item}].act"),
     }
 }

@@ -11,6 +11,6 @@ mod top;
 pub use admission::{Fault, Job, Refusal};
 pub use elf_image::ImageFault;
 pub use guest_asm::AsmCause;
-pub use law::{exactly, examples, text_runs};
+pub use law::{exactly, examples, made_runs, text_runs};
 pub use top::disco;
 pub use unbuilt_keys::UnbuiltKey;

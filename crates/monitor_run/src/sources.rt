@@ -66,13 +66,17 @@ fn with_disks(
 ) -> Result<SourceList, AllocError>
     requires many { length images ≡ length numbers.now }
     requires few { All (λ number. length (disk_numbered (shared_blocks bases.now) number) ≤ 1024) numbers.now }
-    ensures { IfOk result (λ sources. sources ≡ sources_of images (map (disk_numbered (shared_blocks bases.now)) numbers.now)) }
+    ensures { IfOk result (λ sources. sources ≡ sources_of (shared_blocks bases.now) images numbers.now) }
 {
     let mut sources = SourceList::new(alloc);
     for image in images.into_vec() {
         let number = number_at(numbers, sources.len());
         let disk = disk_of(alloc, bases, number)?;
-        sources.push(Source { image, disk })?;
+        sources.push(Source {
+            image,
+            disk,
+            number,
+        })?;
     }
     Ok(sources)
 }
@@ -86,7 +90,7 @@ pub fn sources(
 ) -> Result<SourceList, AllocError>
     requires many { length images ≡ length numbers.now }
     requires few { All (λ number. length (disk_numbered (disks_seen disks) number) ≤ 1024) numbers.now }
-    ensures { IfOk result (λ sources. sources ≡ sources_of images (map (disk_numbered (disks_seen disks)) numbers.now)) }
+    ensures { IfOk result (λ sources. sources ≡ sources_of (disks_seen disks) images numbers.now) }
 {
     let bases = bases_of(alloc, disks)?;
     with_disks(alloc, images, bases.as_slice(), numbers)

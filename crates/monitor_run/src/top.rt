@@ -4,7 +4,7 @@ ghost use Rattle.machine_desc.specs.Described.{described_seen};
 ghost use Rattle.guest_asm.specs.Assembly.{assembly_seen};
 ghost use Rattle.guest_asm.specs.Listing.{listing_of as listing_text};
 ghost use Rattle.outside_io.specs.Writing.{Writes};
-ghost use Rattle.admission.specs.Jobs.{Monitored, Alone, Litmus, Listing};
+ghost use Rattle.admission.specs.Jobs.{Monitored, Alone, Print, Litmus, Listing};
 ghost use Rattle.admission.specs.Ready.{IsReady, IsSetup};
 ghost use Rattle.unbuilt_keys.specs.Unbuilt.{unbuilt};
 ghost use Rattle.admission.specs.Views.{job_seen, starts_of};
@@ -20,9 +20,10 @@ use admission::{Fault, Job, Refusal, Setup, admit};
 use base_words::Bytes;
 use guest_asm::{Assembled, listing_of};
 use guest_core::RunRecord;
+use guest_gen::Made;
 use litmus_run::litmus;
 use outside_io::{Gate, Shelf, Sink, SinkFault, nothing_put_is_starved};
-use run_report::{render, render_alone};
+use run_report::{render, render_alone, render_made};
 use std::alloc::Global;
 use std::sync::Wait;
 use std::thread::Threads;
@@ -135,6 +136,13 @@ fn carry_out_listing<K: Sink>(alloc: Global, assembled: &Assembled, sink: &mut K
     status_of_report(render_listing(alloc, assembled, sink))
 }
 
+/// Prints what is made. No record is kept.
+fn carry_out_print<K: Sink>(alloc: Global, made: &Made, sink: &mut K) -> u8
+    ensures { Ends (Ok (Print made.now)) (K.view sink.old) (K.view sink.new) nothing result }
+{
+    status_of_report(render_made(alloc, made, sink))
+}
+
 /// Carries a job out.
 fn carry_out_job<R: Threads + Wait + Sync, K: Sink, G: Gate>(
     rt: &R,
@@ -151,6 +159,7 @@ fn carry_out_job<R: Threads + Wait + Sync, K: Sink, G: Gate>(
     match job {
         Job::Monitored { setup, sums } => carry_out(rt, alloc, setup, sums, sink, gate, out),
         Job::Alone(setup) => carry_out_alone(alloc, &setup, sink),
+        Job::Print(made) => carry_out_print(alloc, &made, sink),
         Job::Litmus(bytes) => carry_out_litmus(rt, alloc, &bytes, sink, gate),
         Job::Listing(assembled) => carry_out_listing(alloc, &assembled, sink),
     }

@@ -15,9 +15,11 @@ mod open_pages;
 mod page_set;
 mod pmap;
 mod replicas;
+mod sharing;
 mod threads;
 
 pub use freed::Freed;
 pub use open_move::{Change, OpenMove};
 pub use pmap::Pmap;
+pub use sharing::another_owner;
 pub use threads::cross_threads;

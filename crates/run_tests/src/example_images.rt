@@ -1,6 +1,5 @@
 //! The images of the folder `examples`: the words are those of its files.
-/// Where words lie in an image, and the words.
-pub(crate) type Part<'a> = (usize, &'a [u32]);
+use run_cases::Part;
 
 /// Six pages on frames of two cells.
 pub(crate) const LOANS: &[Part<'static>] = &[(

@@ -5,14 +5,16 @@ use crate::example_descriptions::{
     TWO_GUESTS_DESCRIPTION,
 };
 use crate::example_images::{
-    ANSWERS, ASKS, DISK, DIVIDES, HELLO, INPUT, KERNEL, LETTERS, LOANS, MIGRATE, Part, REPLICATE,
-    TIMER,
+    ANSWERS, ASKS, DISK, DIVIDES, HELLO, INPUT, KERNEL, LETTERS, LOANS, MIGRATE, REPLICATE, TIMER,
 };
-use crate::tests::{file_of_parts, words_of};
-use base_words::{Bytes, Name};
+use crate::sharing_examples::{
+    CHANGES_THE_BLOCK, PRINTS_THE_PAGE, READS_THE_BLOCK, SENDS_THE_PAGE, SHARED_DISK_DESCRIPTION,
+    WHOLE_PACKETS_DESCRIPTION,
+};
 use guest_core::RunRecord;
 use monitor_run::disco;
-use outside_io::{CallList, FileList, FreeGate, HeldFile, MemShelf, MemSink};
+use outside_io::{CallList, FileList, FreeGate, MemShelf, MemSink};
+use run_cases::{Part, file_of_parts, held, words_of};
 use std::alloc::{AllocError, Global};
 use std::process::Abort;
 use std::sync::Wait;
@@ -52,23 +54,20 @@ fn image_of(alloc: Global, parts: &[Part]) -> Result<Vec<u8>, AllocError> {
     Ok(image)
 }
 
-/// A file of the shelf.
-fn file(alloc: Global, name: &str, bytes: Vec<u8>) -> Result<HeldFile, AllocError> {
-    Ok(HeldFile {
-        name: Name::copy_of(alloc, name)?,
-        bytes: Bytes::from_vec(bytes),
-    })
-}
+/// The names of the examples' disks.
+const DISKS: [&str; 2] = ["examples/disk/disk.img", "examples/shared_disk/disk.img"];
 
 /// A shelf with the files of an example.
 fn shelf_of(alloc: Global, example: &Example) -> Result<MemShelf, AllocError> {
     let mut files = FileList::new(alloc);
     let description = example.description.as_bytes().to_vec(alloc)?;
-    files.push(file(alloc, "machine.toml", description)?)?;
+    files.push(held(alloc, "machine.toml", description)?)?;
     for (name, parts) in example.images {
-        files.push(file(alloc, *name, image_of(alloc, *parts)?)?)?;
+        files.push(held(alloc, *name, image_of(alloc, *parts)?)?)?;
     }
-    files.push(file(alloc, "examples/disk/disk.img", example.disk.to_vec(alloc)?)?)?;
+    for name in DISKS {
+        files.push(held(alloc, name, example.disk.to_vec(alloc)?)?)?;
+    }
     Ok(MemShelf::new(alloc, files, CallList::from_vec(Vec::new(alloc))))
 }
 
@@ -96,6 +95,17 @@ fn try_example<R: Abort + Threads + Wait + Sync>(
         "output of {about} by {option}"
     );
     Ok(())
+}
+
+/// Runs an example under the monitor, and its guests alone.
+fn try_both<R: Abort + Threads + Wait + Sync>(
+    rt: &R,
+    alloc: Global,
+    example: &Example,
+) -> Result<(), AllocError> {
+    let monitored = (example.status, example.monitored);
+    try_example(rt, alloc, example, "--machine", monitored)?;
+    try_example(rt, alloc, example, "--private", (0, example.alone))
 }
 
 #[test]
@@ -203,6 +213,41 @@ fn examples_print_what_they_should(rt: HostRuntime) -> Result<(), Fail> {
         let monitored = (example.status, example.monitored);
         try_example(&rt, alloc, example, "--machine", monitored)?;
         try_example(&rt, alloc, example, "--private", (0, example.alone))?;
+    }
+    Ok(())
+}
+
+#[test]
+fn examples_that_share_print_what_they_should(rt: HostRuntime) -> Result<(), Fail> {
+    let examples = [
+        Example {
+            about: "shared_disk",
+            description: SHARED_DISK_DESCRIPTION,
+            images: &[
+                ("examples/shared_disk/guest0.elf", READS_THE_BLOCK),
+                ("examples/shared_disk/guest1.elf", CHANGES_THE_BLOCK),
+            ],
+            disk: b"disco",
+            status: 0,
+            monitored: "guest 0 console 5\ndisco\nend halted\nsums steps 37 refills 3 moves 0 skips 0 breaks 0 shared 1 received 0 discarded 0\nguest 1 console 5\nDISCO\nend halted\nsums steps 52 refills 3 moves 0 skips 0 breaks 1 shared 1 received 0 discarded 0\n",
+            alone: "guest 0 console 5\ndisco\nend halted\nguest 1 console 5\nDISCO\nend halted\n",
+        },
+        Example {
+            about: "whole_packets",
+            description: WHOLE_PACKETS_DESCRIPTION,
+            images: &[
+                ("examples/whole_packets/guest0.elf", SENDS_THE_PAGE),
+                ("examples/whole_packets/guest1.elf", PRINTS_THE_PAGE),
+            ],
+            disk: &[],
+            status: 0,
+            monitored: "guest 0 console 4\nkept\nend halted\nsums steps 33 refills 5 moves 0 skips 0 breaks 1 shared 0 received 0 discarded 0\nguest 1 console 4\nsent\nend halted\nsums steps 27 refills 4 moves 0 skips 0 breaks 0 shared 1 received 1 discarded 0\n",
+            alone: "guest 0 console 4\nkept\nend halted\nguest 1 console 0\n\nend budget\n",
+        },
+    ];
+    let alloc = rt.alloc();
+    for example in &examples {
+        try_both(&rt, alloc, example)?;
     }
     Ok(())
 }

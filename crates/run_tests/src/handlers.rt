@@ -1,6 +1,7 @@
 //! Programs that handle exceptions, interrupts and system calls, with the console derived by hand.
 use crate::programs::START;
-use crate::tests::{Row, file_of_parts, halts, try_row};
+use crate::rows::{Row, halts, try_row};
+use run_cases::file_of_parts;
 use std::alloc::{AllocError, Global};
 use std::process::Abort;
 use std::sync::Wait;

@@ -1,29 +1,11 @@
 //! The journals of whole runs, entry by entry.
-use crate::parallel::{crowd, record_of};
-use crate::tests::PRINTS_A;
 use base_words::{Bytes, End, Event, ProcId, VcpuId};
-use guest_core::RunRecord;
 use outside_io::FreeGate;
-use std::process::Abort;
+use run_cases::{PRINTS_A, crowd, have_entries, record_of};
 use std::test::Fail;
 
 /// J to itself, and its delay slot.
 const LOOPS: [u8; 8] = [0x08, 0x00, 0x00, 0x00, 0x24, 0x00, 0x00, 0x00];
-
-/// Each guest's journal has these entries, each so many times in a row.
-pub(crate) fn try_journals<R: Abort>(rt: &R, out: &RunRecord, expected: &[(Event, u64)]) {
-    for guest in out.guests.as_slice() {
-        let mut runs = guest.journal.as_runs();
-        for (event, count) in expected {
-            let Some(run) = runs.next() else {
-                panic!(rt; "{event:?} is missing");
-            };
-            assert_eq!(rt; run.event, *event, "in its place");
-            assert_eq!(rt; run.count, *count, "of {event:?}");
-        }
-        assert!(rt; runs.next().is_none(), "there are more");
-    }
-}
 
 #[test]
 fn the_record_has_the_journal(rt: HostRuntime) -> Result<(), Fail> {
@@ -32,18 +14,15 @@ fn the_record_has_the_journal(rt: HostRuntime) -> Result<(), Fail> {
     let text = crowd(alloc, 1, 1, 1, 16, 5)?;
     let image = Bytes::from_vec(PRINTS_A.to_vec(alloc)?);
     let out = record_of(&rt, alloc, text.as_str(), image, &FreeGate)?;
-    try_journals(
-        &rt,
-        &out,
-        &[
-            (Event::Load(processor, vcpu), 1),
-            (Event::Refill(processor), 1),
-            (Event::Direct(processor, vcpu), 3),
-            (Event::Emulate(processor, vcpu), 2),
-            (Event::End(End::Halted), 1),
-            (Event::Unload(processor), 1),
-        ],
-    );
+    let expected = [
+        (Event::Load(processor, vcpu), 1),
+        (Event::Refill(processor), 1),
+        (Event::Direct(processor, vcpu), 3),
+        (Event::Emulate(processor, vcpu), 2),
+        (Event::End(End::Halted), 1),
+        (Event::Unload(processor), 1),
+    ];
+    assert!(&rt; have_entries(&out, &expected), "its entries");
     Ok(())
 }
 
@@ -54,17 +33,14 @@ fn two_million_steps_are_five_runs(rt: HostRuntime) -> Result<(), Fail> {
     let text = crowd(alloc, 1, 1, 1, 16, 2_000_000)?;
     let image = Bytes::from_vec(LOOPS.to_vec(alloc)?);
     let out = record_of(&rt, alloc, text.as_str(), image, &FreeGate)?;
-    try_journals(
-        &rt,
-        &out,
-        &[
-            (Event::Load(processor, vcpu), 1),
-            (Event::Refill(processor), 1),
-            (Event::Direct(processor, vcpu), 2_000_000),
-            (Event::Unload(processor), 1),
-            (Event::End(End::Budget), 1),
-        ],
-    );
+    let expected = [
+        (Event::Load(processor, vcpu), 1),
+        (Event::Refill(processor), 1),
+        (Event::Direct(processor, vcpu), 2_000_000),
+        (Event::Unload(processor), 1),
+        (Event::End(End::Budget), 1),
+    ];
+    assert!(&rt; have_entries(&out, &expected), "its entries");
     let [guest] = out.guests.as_slice() else {
         panic!(&rt; "there is one guest");
     };

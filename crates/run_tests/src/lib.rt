@@ -2,10 +2,6 @@
 #![tactic(auto)]
 
 #[cfg(test)]
-mod cases;
-#[cfg(test)]
-mod descriptions;
-#[cfg(test)]
 mod example_descriptions;
 #[cfg(test)]
 mod example_images;
@@ -18,17 +14,15 @@ mod journals;
 #[cfg(test)]
 mod litmus_files;
 #[cfg(test)]
-mod moves;
-#[cfg(test)]
-mod packets;
+mod numbers;
 #[cfg(test)]
 mod parallel;
 #[cfg(test)]
-mod policy;
-#[cfg(test)]
 mod programs;
 #[cfg(test)]
-mod refusals;
+mod rows;
+#[cfg(test)]
+mod sharing_examples;
 #[cfg(test)]
 mod spaces;
 #[cfg(test)]

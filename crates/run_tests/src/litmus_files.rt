@@ -1,9 +1,9 @@
 //! Litmus files, with what is printed for them. The expected texts are worked out by hand.
-use crate::tests::words_of;
 use base_words::{Bytes, Name, ProcId};
 use guest_core::RunRecord;
 use monitor_run::disco;
 use outside_io::{CallList, FileList, FreeGate, Gate, GatePoint, HeldFile, MemShelf, MemSink};
+use run_cases::words_of;
 use std::alloc::{AllocError, Global};
 use std::process::Abort;
 use std::sync::Wait;

@@ -1,5 +1,6 @@
 //! Small raw programs, one a group of the instruction table, with the console derived by hand.
-use crate::tests::{Row, file_of_parts, halts, try_row};
+use crate::rows::{Row, halts, try_row};
+use run_cases::file_of_parts;
 use std::alloc::{AllocError, Global};
 use std::process::Abort;
 use std::sync::Wait;

@@ -1,5 +1,6 @@
 //! A guest with two address spaces, whose TLB is full.
-use crate::tests::{Row, file_of_parts, halts, try_row};
+use crate::rows::{Row, halts, try_row};
+use run_cases::file_of_parts;
 use std::test::Fail;
 
 /// Pages 4 to 7 begin with a, b, c and d. Entries 0 to 23 map 24 virtual pages in address space 1 to pages 4, 5, 6, 7, 4 and so on;

@@ -1,6 +1,7 @@
 //! Registers and TLB entries as a guest finds them, after steps that were worked out by hand. A guest prints A for each value that is as
 //! expected, and @ for another one.
-use crate::tests::{Row, file_of_parts, halts, try_row};
+use crate::rows::{Row, halts, try_row};
+use run_cases::file_of_parts;
 use std::alloc::{AllocError, Global};
 use std::process::Abort;
 use std::sync::Wait;

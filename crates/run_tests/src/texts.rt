@@ -1,6 +1,6 @@
 //! Texts that are assembled, and printed or run. The words are those of the manual's opcode maps, the image's bytes those of the ELF
 //! specification.
-use crate::tests::{Row, halts, try_row};
+use crate::rows::{Row, halts, try_row};
 use std::alloc::Global;
 use std::process::Abort;
 use std::sync::Wait;

@@ -1,6 +1,6 @@
 -- Guests at their starts.
 use Rattle.std.proofs.Common.{◌≡◌, ℕ, zero, suc, ◌+◌, ◌*◌, ◌<◌, ◌≤◌, ◌^◌, List, [], ◌∷◌, ◌++◌, map, length, All, refl, sym, ap, ◌∙◌, subst, arith, Some, length-append}
-use Rattle.std.specs.Prelude.{slice_get}
+use Rattle.std.specs.Prelude.{slice_get, slice_index}
 use Rattle.atomic_table.specs.Seated.{TableId}
 use Rattle.base_words.specs.declared.ids.NodeId.{NodeId}
 use Rattle.base_words.specs.declared.frame.Frame.{Frame}
@@ -18,13 +18,14 @@ use Rattle.guest_course.specs.BootCalls.{AllBelow, found_of}
 use Rattle.guest_course.specs.CourseView.{surroundings}
 use Rattle.isolation_law.specs.GuestState.{GuestState}
 use Rattle.isolation_law.specs.Start.{Boot}
+use Rattle.isolation_law.specs.Surroundings.{home_cell}
 use Rattle.base_words.specs.declared.input.InputEntry.{InputEntry}
 use Rattle.std.proofs.lemmas.List.{length-map}
 use Rattle.std.proofs.Math.Nat.{mul-le-mul_left, mul-le-mul_right}
+use Rattle.guest_core.specs.Blocks.{blocks_of, LieOnCell}
 use Rattle.guest_core.specs.GuestView.{Monitored, Shared, IsAtStart}
 use Rattle.guest_core.specs.Holding.{FitsAround}
 use Rattle.guest_core.specs.Starting.{MayStart, booted_with}
-use Rattle.unbuilt_keys.specs.Built.{IsBuilt}
 use Rattle.run_workers.specs.Starting.{IsSource, AreSources, IsPlaced, IsStart, around_of}
 use Rattle.run_workers.specs.Booting.{home_in, IsSite, IsSeat, board_of, AreSeats, IsStarted, AreBooted, AreWires, HasPasses, HaveAllPasses}
 use Rattle.wire_queue.specs.Between.{Made}
@@ -43,8 +44,8 @@ all-below : (count : ℕ) (nodes : List NodeId) → All (λ (n : NodeId). n.0 < 
 all-below count [] all = tt
 all-below count (n ∷ nodes) all = (all 0 n (omega arith), all-below count nodes (λ i d l. all (suc i) d (omega arith)))
 
-pub may-start : (machine : Machine) (plan : Plan) (around : Around) (source : Source) (spec : GuestSpec) (vcpus : ℕ) (frames : List Frame) → IsDescribed machine plan → IsBuilt (described_seen machine plan) → IsSite machine around.site → IsGuest machine.shape.nodes spec → IsSource spec source → vcpus ≡ spec.vcpus → around.home ≡ spec.node → length frames ≡ length source.image.pages → MayStart around source.image vcpus frames source.disk
-may-start machine plan around source spec vcpus frames described built site guest is count home backed =
+pub may-start : (machine : Machine) (plan : Plan) (around : Around) (source : Source) (spec : GuestSpec) (vcpus : ℕ) (frames : List Frame) → IsDescribed machine plan → IsSite machine around.site → IsGuest machine.shape.nodes spec → IsSource spec source → vcpus ≡ spec.vcpus → around.home ≡ spec.node → length frames ≡ length source.image.pages → MayStart around source.image vcpus frames source.disk
+may-start machine plan around source spec vcpus frames described site guest is count home backed =
     let pages = is.pages in
     let some = guest.some_vcpus in
     let few = guest.few_vcpus in
@@ -171,8 +172,8 @@ next-source machine plan sources yielded rest now source described are all first
 
 -- ---- one guest at its start
 
-pub started : (machine : Machine) (plan : Plan) (around : Around) (source : Source) (spec : GuestSpec) (frames : List Frame) (input : List InputEntry) (seat : Seat) (shared : Shared) (passes : PassList) (holder : TableId) (number : ℕ) (guest : Monitored) → IsSite machine around.site → around.number.0 ≡ number → around.home ≡ spec.node → slice_get machine.guests number ≡ Some spec → slice_get plan.input number ≡ Some input → IsPlaced (described_seen machine plan) number spec (map found_of frames) → seat.number ≡ number → IsAtStart seat.number (booted_with around source.image spec.vcpus frames source.disk input) seat.board holder shared.wires passes guest → holder ≡ shared.table.id → FitsAround shared.table (surroundings around) → passes.guest.0 ≡ number → IsStarted (described_seen machine plan) source seat.board shared number guest
-started machine plan around source spec frames input seat shared passes holder number guest site of home spec-is input-is placed seat-is at made fits own =
+pub started : (machine : Machine) (plan : Plan) (around : Around) (source : Source) (spec : GuestSpec) (frames : List Frame) (input : List InputEntry) (seat : Seat) (shared : Shared) (passes : PassList) (holder : TableId) (number : ℕ) (guest : Monitored) → IsSite machine around.site → around.number.0 ≡ number → around.home ≡ spec.node → slice_get machine.guests number ≡ Some spec → slice_get plan.input number ≡ Some input → IsPlaced (described_seen machine plan) number spec (map found_of frames) → seat.number ≡ number → IsAtStart seat.number (booted_with around source.image spec.vcpus frames source.disk input) around.disk seat.board holder shared.wires passes guest → holder ≡ shared.table.id → FitsAround shared.table (surroundings around) → LieOnCell (surroundings around) (home_cell (surroundings around)) (blocks_of shared.indexes (home_cell (surroundings around))) → passes.guest.0 ≡ number → IsStarted (described_seen machine plan) source seat.board shared number guest
+started machine plan around source spec frames input seat shared passes holder number guest site of home spec-is input-is placed seat-is at made fits lie own =
     let d = described_seen machine plan in
     let lies : surroundings around ≡ around_of d number spec = λ k. record {
       guest = of k;
@@ -198,6 +199,7 @@ started machine plan around source spec frames input seat shared passes holder n
         shared_is = record {
           table = record { made = at.table_is ∙ made; fits = subst (λ (b : Boot). FitsAround shared.table b.around) (sym at.start_is) fits };
           wires = at.wires_are;
+          blocks = subst (λ (b : Boot). LieOnCell b.around (home_cell b.around) (blocks_of shared.indexes (home_cell b.around))) (sym at.start_is) lie;
         };
         own_is = ap (λ (p : PassList). p.guest.0) at.passes_are ∙ own;
         goes_on = ap (λ (s : GuestState). s.end) at.state_is;
@@ -212,13 +214,21 @@ started machine plan around source spec frames input seat shared passes holder n
 -- ---- the wires
 
 -- a guest's ends are those of the wires around it
-pub wired : (machine : Machine) (around : Around) (wires : Made) (passes : PassList) (number : ℕ) → IsSite machine around.site → around.number.0 ≡ number → number < length machine.guests → AreWires (length machine.guests) wires → HasPasses wires number passes → IsWired wires passes (surroundings around)
-wired machine around wires passes number site of there are has = record {
+pub wired : (machine : Machine) (around : Around) (spec : GuestSpec) (wires : Made) (passes : PassList) (number : ℕ) → IsSite machine around.site → around.number.0 ≡ number → around.home ≡ spec.node → slice_get machine.guests number ≡ Some spec → AreWires machine wires → HasPasses wires number passes → IsWired wires passes (surroundings around)
+wired machine around spec wires passes number site of home spec-is are has = record {
   list = has.list;
   joins = are.joins;
   guests = are.all ∙ sym (length-map machine.guests (home_in machine)) ∙ sym (ap length site.homes);
   number = has.guest_is ∙ sym of;
-  is_guest = omega (arith, has.guest_is, are.all, there);
+  is_guest = omega (arith, has.guest_is, are.all, (get-index machine.guests number spec spec spec-is).0);
+  terms = record {
+    frames = are.frames ∙ sym site.frames;
+    cells = ap (map (λ (c : CellId). c.0)) (are.cells ∙ sym site.cells);
+    homes = are.homes ∙ sym site.homes;
+  };
+  at_home = ap (slice_get (map (λ (c : CellId). c.0) around.site.homes)) of ∙ ap (λ (l : List ℕ). slice_get l number) site.homes
+      ∙ map-get (home_in machine) machine.guests number spec spec-is
+      ∙ (λ i. Some (slice_index (map (λ (c : CellId). c.0) (sym site.cells i)) (sym home i).0));
 }
 
 -- the ends of the next guest

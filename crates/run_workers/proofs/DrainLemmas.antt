@@ -42,14 +42,15 @@ some-same x y e = cc
 -- ---- guests that were only asked
 
 pub same-refl : (g : Monitored) → IsSameGuest g g
-same-refl g = record { number = refl; start = refl; board = refl; table = refl; wires = refl; own = refl }
+same-refl g = record { number = refl; start = refl; disk = refl; board = refl; table = refl; wires = refl; own = refl }
 
 pub same-trans : (g h k : Monitored) → IsSameGuest g h → IsSameGuest h k → IsSameGuest g k
-same-trans g h k a b = record { number = b.number ∙ a.number; start = b.start ∙ a.start; board = b.board ∙ a.board; table = b.table ∙ a.table; wires = b.wires ∙ a.wires; own = b.own ∙ a.own }
+same-trans g h k a b = record { number = b.number ∙ a.number; start = b.start ∙ a.start; disk = b.disk ∙ a.disk; board = b.board ∙ a.board; table = b.table ∙ a.table; wires = b.wires ∙ a.wires; own = b.own ∙ a.own }
 
 pub ends-refl : (g : Monitored) → KeepsEnds g g
 ends-refl g = record {
   same = same-refl g;
+  handed = refl;
   stays = record { journal = refl; state = refl; view = refl };
   notes = refl;
   room = refl;
@@ -59,6 +60,7 @@ ends-refl g = record {
 pub ends-trans : (g h k : Monitored) → KeepsEnds g h → KeepsEnds h k → KeepsEnds g k
 ends-trans g h k a b = record {
   same = same-trans g h k a.same b.same;
+  handed = b.handed ∙ a.handed;
   stays = record { journal = b.stays.journal ∙ a.stays.journal; state = b.stays.state ∙ a.stays.state; view = b.stays.view ∙ a.stays.view };
   notes = b.notes ∙ a.notes;
   room = b.room ∙ a.room;

@@ -1,16 +1,20 @@
 -- One guest more has ended.
-use Rattle.std.proofs.Common.{◌≡◌, ◌≢◌, ℕ, zero, suc, ◌+◌, ◌<◌, List, [], ◌∷◌, ◌++◌, length, length-append, All, sym, ap, ◌∙◌, subst, arith, refl, Option, Some, None, is_some, true, false}
+use Rattle.std.proofs.Common.{◌≡◌, ◌≢◌, ℕ, zero, suc, ◌+◌, ◌<◌, List, [], ◌∷◌, ◌++◌, length, length-append, All, sym, ap, ◌∙◌, subst, arith, refl, Option, Some, None, is_some, Bool, true, false, if◌then◌else◌, ◌⊎◌, ⊎_elim}
 use Rattle.std.specs.Prelude.{slice_get}
 use Rattle.atomic_table.specs.Seated.{TableId}
 use Rattle.base_words.specs.declared.events.Event.{Event}
+use Rattle.base_words.specs.declared.events.Event.TheVariants.{Finish, End as Ending}
 use Rattle.base_words.specs.declared.events.End.{End}
 use Rattle.base_words.specs.declared.events.End.TheVariants.{Budget}
 use Rattle.shootdown.specs.declared.view.SidedNote.{SidedNote}
 use Rattle.shootdown.specs.Notes.{Seat}
+use Rattle.private_machine.specs.Backing.{Page}
+use Rattle.isolation_law.specs.EndRows.{is_taking}
 use Rattle.isolation_law.specs.GuestState.{GuestState}
 use Rattle.isolation_law.specs.Run.{Run}
 use Rattle.isolation_law.specs.Start.{Boot, start}
 use Rattle.isolation_law.specs.WireHistory.{EndsWaiting}
+use Rattle.guest_course.specs.EndCalls.{letting_go}
 use Rattle.guest_core.specs.GuestView.{Monitored, Shared, IsSameGuest}
 use Rattle.guest_core.specs.MoveCalls.{EndsByPlan}
 use Rattle.guest_core.specs.Noting.{IsNoted}
@@ -32,15 +36,29 @@ pub none-of : (end : Option End) → is_some end ≡ false → end ≡ None
 none-of None is = refl
 none-of (Some end) is = absurd cc
 
+pub some-of : (end : Option End) → is_some end ≡ true → end ≡ None → ⊥
+some-of None is none = absurd cc
+some-of (Some end) is none = absurd cc
+
+-- the end that comes last is the guest's
+pub ends-so : (q : ℕ) (pages : List Page) (s t : GuestState) → Run s (letting_go q pages ++ Ending Budget ∷ []) t → t.end ≡ Some Budget
+ends-so q [] s t run =
+    let last = ap (λ (x : GuestState). x.end) run.3.after in
+    ⊎_elim (λ same. ap (λ (x : GuestState). x.end) same ∙ last) (λ comes. (let both : None ≡ Some Budget = sym comes.goes_on.not_ended ∙ last in absurd cc)) run.4
+ends-so q (g ∷ pages) s t run = by (is_taking g.move) (λ m. ends-so (suc q) pages m t) run
+  where
+    by : (b : Bool) → ((m : GuestState) → Run m (letting_go (suc q) pages ++ Ending Budget ∷ []) t → t.end ≡ Some Budget) → Run s ((if b then Finish (record { 0 = q }) ∷ letting_go (suc q) pages else letting_go (suc q) pages) ++ Ending Budget ∷ []) t → t.end ≡ Some Budget
+    by true rest run = rest run.1 run.4
+    by false rest run = rest s run
+
 -- the plan's end, and the moves that are finished before, keep what is armed and in hand
-pub ends-by-plan : (guest room last : Monitored) (passes : PassList) → passes ≡ guest.passes → room.state ≡ guest.state → guest.state.end ≡ None → EndsByPlan room.state last.state → EndsSo guest last.state passes
+pub ends-by-plan : (guest room last : Monitored) (passes : PassList) → passes ≡ guest.passes → room.state ≡ guest.state → guest.state.end ≡ None → EndsByPlan room last → EndsSo guest last.state passes
 ends-by-plan guest room last passes same stays goes_on ends =
-    let before = subst (λ (s : GuestState). EndsByPlan s last.state) stays ends in
-    let devices = ap (λ (s : GuestState). s.devices) before.row.after ∙ before.devices in
+    let devices = ends.devices ∙ ap (λ (s : GuestState). s.devices) stays in
     record {
       same = same;
       armed = λ waits. record { not_ended = goes_on; armed = λ e. waits.1 (ap (λ d. d.armed) devices ∙ e) };
-      hand = λ waits. ap (λ (s : GuestState). s.hand) before.row.after ∙ before.hand;
+      hand = λ waits. ends.hand ∙ ap (λ (s : GuestState). s.hand) stays;
     }
 
 -- a guest that had ended waits for nothing

@@ -7,6 +7,7 @@ pub mod RunLemmas
 pub mod ServingLemmas
 pub mod TopLemmas
 pub mod LotLemmas
+pub mod CacheLemmas
 pub mod BootLemmas
 pub mod EndLemmas
 pub mod DrainLemmas

@@ -100,7 +100,7 @@ pub record IsHeldLot (layout : Layout) (home : ℕ) (lot : Lot) : Type 0 where
 -- the machine around the guest is of this layout
 pub record IsAround (layout : Layout) (home : ℕ) (w : Surroundings) : Type 0 where
   pub frames : frames_around w ≡ layout.nodes * layout.frames
-  pub cells : (f : Frame) → cell_of_frame w f.number.0 ≡ frame_cell layout f
+  pub cells : (frame : ℕ) → cell_of_frame w frame ≡ cell_of_node layout (frame / layout.frames)
   pub at_home : home_cell w ≡ home
 
 pub holds-for : (table : MadeTable) (layout : Layout) (home : ℕ) (lot : Lot) (b : Boot) → table.terms.frames ≡ layout.nodes * layout.frames → All (IsNew table.terms) lot.frames → IsHeldLot layout home lot → ((frame : ℕ) → frame_times frame lot.frames ≤ 1) → b.frames ≡ map found_of lot.frames → IsAround layout home b.around → HoldsFor b lot.holder.view
@@ -125,7 +125,7 @@ holds-for table layout home lot b words new is once frames around =
     copied frame generation n g e = let both = and_parts (n == frame) (g == generation) e in (eqb-true n frame both.0, eqb-true g generation both.1)
 
     cell-count : (cell : ℕ) (fs : List Frame) → count_by (λ (f : Frame). cell_of_frame b.around f.number.0 == cell) fs ≡ count_by (λ (f : Frame). frame_cell layout f == cell) fs
-    cell-count cell fs = ap (λ (h : Frame → ℕ). count_by (λ (f : Frame). h f == cell) fs) (λ i f. around.cells f i)
+    cell-count cell fs = ap (λ (h : Frame → ℕ). count_by (λ (f : Frame). h f == cell) fs) (λ i f. around.cells f.number.0 i)
 
 -- ---- the machine of a description
 
@@ -140,7 +140,7 @@ is-around machine around spec site home =
     record {
       frames = (λ i. length (map (λ (c : CellId). c.0) (site.cells i)) * site.frames i)
           ∙ ap (λ (n : ℕ). n * machine.shape.frames) (length-map machine.shape.cells (λ (c : CellId). c.0) ∙ machine.shape.has_cells);
-      cells = λ f. (λ i. get_or (map (λ (c : CellId). c.0) (site.cells i)) (f.number.0 / site.frames i) 0) ∙ cell-at machine.shape.cells (f.number.0 / machine.shape.frames);
+      cells = λ frame. (λ i. get_or (map (λ (c : CellId). c.0) (site.cells i)) (frame / site.frames i) 0) ∙ cell-at machine.shape.cells (frame / machine.shape.frames);
       at_home = (λ i. get_or (map (λ (c : CellId). c.0) (site.cells i)) (home i).0 0) ∙ cell-at machine.shape.cells spec.node.0;
     }
 
@@ -163,16 +163,11 @@ after-append : (layout : Layout) (xs ys : List Claim) (left : Left) → after_cl
 after-append layout [] ys left = refl
 after-append layout (x ∷ xs) ys left = after-append layout xs ys (after_claim layout x left)
 
--- without caches the guests before it are all that came first
-left-is : (machine : Machine) (plan : Plan) (guest : ℕ) → machine.cache ≡ 0 → ((layout : Layout) (cells : ℕ) (left : Left) → after_claims layout (cache_claims 0 0 cells) left ≡ left)
-    → left_for (described_seen machine plan) guest ≡ left_behind machine guest
-left-is machine plan guest none empty =
+-- the caches come first, and then the guests before it
+left-is : (machine : Machine) (plan : Plan) (guest : ℕ) → left_for (described_seen machine plan) guest ≡ left_behind machine guest
+left-is machine plan guest =
     let layout = layout_of machine.shape in
-    let pages = page_claims 0 (take guest (map need_of machine.guests)) in
-    let first = first_left layout machine.lends in
-    after-append layout (cache_claims machine.cache 0 (length machine.lends)) pages first
-    ∙ ap (λ (cache : ℕ). after_claims layout pages (after_claims layout (cache_claims cache 0 (length machine.lends)) first)) none
-    ∙ ap (after_claims layout pages) (empty layout (length machine.lends) first)
+    after-append layout (cache_claims machine.cache 0 (length machine.lends)) (page_claims 0 (take guest (map need_of machine.guests))) (first_left layout machine.lends)
 
 found-at : (fs : List Frame) (k : ℕ) (x : Found) → slice_get (map found_of fs) k ≡ Some x → (f : Frame) × (slice_get fs k ≡ Some f) × (found_of f ≡ x)
 found-at [] k x e = absurd cc
@@ -184,16 +179,15 @@ new-at P [] k f all e = absurd cc
 new-at P (x ∷ fs) zero f all e = let same : x ≡ f = cc in subst P same (All-head P x fs all)
 new-at P (x ∷ fs) (suc k) f all e = new-at P fs k f (All-tail P x fs all) e
 
-pub lot-placed : (machine : Machine) (plan : Plan) (table : MadeTable) (guest : ℕ) (spec : GuestSpec) (lot : Lot) → machine.cache ≡ 0 → ((layout : Layout) (cells : ℕ) (left : Left) → after_claims layout (cache_claims 0 0 cells) left ≡ left)
-    → table.terms.first ≡ 0 → IsLotOf machine table guest spec lot → IsPlaced (described_seen machine plan) guest spec (map found_of lot.frames)
-lot-placed machine plan table guest spec lot none empty fresh is = record {
+pub lot-placed : (machine : Machine) (plan : Plan) (table : MadeTable) (guest : ℕ) (spec : GuestSpec) (lot : Lot) → table.terms.first ≡ 0 → IsLotOf machine table guest spec lot → IsPlaced (described_seen machine plan) guest spec (map found_of lot.frames)
+lot-placed machine plan table guest spec lot fresh is = record {
   count = length-map lot.frames found_of ∙ is.taken.count;
   each = λ k x at.
       let was = found-at lot.frames k x at in
       let layout = layout_of machine.shape in
       let taker = (page_claim guest (need_of spec)).taker in
       let new = (new-at (IsNew table.terms) lot.frames k was.0 is.taken.new was.1).first in (
-        ap (λ (l : Left). frame_at layout taker l k) (left-is machine plan guest none empty) ∙ is.taken.placed k was.0 was.1 ∙ ap (λ (f : Found). Some f.frame) was.2,
+        ap (λ (l : Left). frame_at layout taker l k) (left-is machine plan guest) ∙ is.taken.placed k was.0 was.1 ∙ ap (λ (f : Found). Some f.frame) was.2,
         ap (λ (f : Found). f.generation) (sym was.2) ∙ new ∙ ap (λ (n : ℕ). n + 1) fresh,
       );
 }

@@ -4,6 +4,8 @@ use Rattle.std.specs.Prelude.{slice_get, slice_index_or}
 use Rattle.std.proofs.lemmas.List.{append_assoc}
 use Rattle.atomic_table.specs.Seated.{TableId}
 use Rattle.isolation_law.specs.Start.{Boot}
+use Rattle.isolation_law.specs.Surroundings.{home_cell}
+use Rattle.guest_core.specs.Blocks.{blocks_of, LieOnCell}
 use Rattle.guest_core.specs.GuestView.{Monitored, Shared, AreOf, IsSameGuest}
 use Rattle.guest_core.specs.Holding.{FitsAround}
 use Rattle.guest_core.specs.PacketCalls.{IsArmed, KeepsEnds, SameSends}
@@ -47,6 +49,7 @@ pub are-of : (shared : Shared) (g h : Monitored) → IsSameGuest g h → AreOf s
 are-of shared g h same are = record {
   table = record { made = same.table ∙ are.table.made; fits = subst (λ (b : Boot). FitsAround shared.table b.around) (sym same.start) are.table.fits };
   wires = same.wires ∙ are.wires;
+  blocks = subst (λ (b : Boot). LieOnCell b.around (home_cell b.around) (blocks_of shared.indexes (home_cell b.around))) (sym same.start) are.blocks;
 }
 
 is-guest : (starts : List Boot) (board : TableId) (shared : Shared) (k : ℕ) (g h : Monitored) → IsGuestOf starts board shared k g → Receives g h → IsGuestOf starts board shared k h

@@ -1,5 +1,6 @@
 -- The guests of a description, booted.
-use Rattle.std.specs.Prelude.{◌≡◌, ℕ, List, [], ◌∷◌, length, map, take, All, None, Some, slice_get, slice_index}
+use Rattle.std.specs.Option.{option_map_or}
+use Rattle.std.specs.Prelude.{◌≡◌, ℕ, List, [], ◌∷◌, ◌++◌, length, map, take, All, None, Some, slice_get, slice_index}
 use Rattle.atomic_table.specs.Seated.{TableId}
 use Rattle.base_words.specs.declared.input.InputEntry.{InputEntry}
 use Rattle.frame_words.specs.Holders.{MadeTable, Holding, IsMade}
@@ -8,7 +9,7 @@ use Rattle.isolation_law.specs.Start.{Boot}
 use Rattle.node_frames.specs.Layout.{layout_of}
 use Rattle.node_frames.specs.Left.{Left, first_left}
 use Rattle.boot_frames.specs.Chain.{after_claims}
-use Rattle.boot_frames.specs.Claims.{page_claim, page_claims}
+use Rattle.boot_frames.specs.Claims.{cache_claims, page_claim, page_claims}
 use Rattle.boot_frames.specs.Lots.{Serves}
 use Rattle.boot_frames.specs.declared.lots.Lot.{Lot}
 use Rattle.shootdown.specs.Notes.{Token, Seat}
@@ -16,10 +17,13 @@ use Rattle.shootdown.specs.Making.{numbered, fresh_token}
 use Rattle.machine_desc.specs.declared.machine.GuestSpec.{GuestSpec}
 use Rattle.machine_desc.specs.declared.machine.Machine.{Machine}
 use Rattle.machine_desc.specs.Described.{Described}
+use Rattle.cow_disk.specs.IndexView.{Index}
+use Rattle.guest_course.specs.BootCalls.{given_blocks}
 use Rattle.guest_course.specs.declared.site.Site.{Site}
 use Rattle.guest_core.specs.GuestView.{Monitored, Shared, AreOf}
 use Rattle.boot_frames.specs.Needs.{need_of}
-use Rattle.run_workers.specs.Starting.{IsStart}
+use Rattle.block_caches.specs.Filling.{AreCaches, DiskSeen}
+use Rattle.run_workers.specs.Starting.{home_of, layout_in, IsStart}
 use Rattle.wire_queue.specs.Between.{Made, guest_count}
 use Rattle.wire_queue.specs.PassLists.{IsListOf, IsUnused, JoinsAll, AreAllOf}
 use Rattle.wire_queue.specs.declared.lists.PassList.{PassList}
@@ -37,9 +41,12 @@ pub record IsSite (machine : Machine) (site : Site) : Type 0 where
   pub homes : map (λ c. c.0) site.homes ≡ map (home_in machine) machine.guests
   pub policy : site.policy ≡ machine.policy
 
--- what the guests before this one leave, where nothing was taken before them
+-- what the caches leave, and then the guests before this one
+abbrev pub left_by_caches : Machine → Left
+left_by_caches machine = after_claims (layout_of machine.shape) (cache_claims machine.cache 0 (length machine.lends)) (first_left (layout_of machine.shape) machine.lends)
+
 abbrev pub left_behind : Machine → ℕ → Left
-left_behind machine guest = after_claims (layout_of machine.shape) (page_claims 0 (take guest (map need_of machine.guests))) (first_left (layout_of machine.shape) machine.lends)
+left_behind machine guest = after_claims (layout_of machine.shape) (page_claims 0 (take guest (map need_of machine.guests))) (left_by_caches machine)
 
 -- the frames and the holder of a guest, of what the guests before it left
 abbrev pub IsLotOf : Machine → MadeTable → ℕ → GuestSpec → Lot → Type 0
@@ -85,9 +92,28 @@ pub record AreSeats (count : ℕ) (seats : List Seat) : Type 0 where
   pub all : length seats ≡ count
   pub each : (g : ℕ) (seat : Seat) → slice_get seats g ≡ Some seat → IsSeat (board_of seats) g seat
 
--- the guests and the tokens of a description, of one board; the table of the guests' frames with its first holder, which has nothing;
--- and the wires between the guests
+-- ---- caches
+
+-- the disk of a guest, if it has one, and those of all guests, each with its guest's home cell
+abbrev pub home_disk : ℕ → Source → List DiskSeen
+home_disk cell source = option_map_or (λ (n : ℕ). record { cell = cell; number = n; blocks = given_blocks source.disk } ∷ []) source.number []
+
+abbrev pub home_disks : List ℕ → List Source → List DiskSeen
+home_disks [] sources = []
+home_disks (cell ∷ homes) [] = []
+home_disks (cell ∷ homes) (source ∷ sources) = home_disk cell source ++ home_disks homes sources
+
+-- each cell's index has the first blocks of the disks of the guests that are at home there, in the frames of the cell's cache, which are the
+-- first that were taken
+abbrev pub AreCached : Described → List Source → MadeTable → List Index → Type 0
+AreCached d sources table indexes = AreCaches table.terms (layout_in d) (first_left (layout_in d) d.lends) d.cache (length d.lends) (length sources) (home_disks (map (home_of d) d.guests) sources) indexes
+
+-- ---- all that was booted
+
+-- the guests and the tokens of a description, of one board; the table of the guests' frames with its first holder, which has nothing; the
+-- wires between the guests; and the caches of the cells
 pub record HasBooted (d : Described) (sources : List Source) (guests : List Monitored) (tokens : List Token) (shared : Shared) (holder : Holding) : Type 0 where
+  pub cached : AreCached d sources shared.table shared.indexes
   pub board : TableId
   pub made : IsMade shared.table holder
   pub nothing : holder.view.holds ≡ []
@@ -95,10 +121,13 @@ pub record HasBooted (d : Described) (sources : List Source) (guests : List Moni
   pub guests_are : AreBooted d sources board shared guests
   pub tokens_are : tokens ≡ numbered (fresh_token board) 0 (length d.processors)
 
--- the wires join so many guests
-pub record AreWires (count : ℕ) (wires : Made) : Type 0 where
+-- the wires join the guests of a machine, and know how it lies
+pub record AreWires (machine : Machine) (wires : Made) : Type 0 where
   pub joins : JoinsAll wires
-  pub all : guest_count wires ≡ count
+  pub all : guest_count wires ≡ length machine.guests
+  pub frames : wires.terms.frames ≡ machine.shape.frames
+  pub cells : wires.terms.cells ≡ machine.shape.cells
+  pub homes : map (λ c. c.0) wires.terms.homes ≡ map (home_in machine) machine.guests
 
 -- the ends of its wires of the guest of this number, of which none was used
 pub record HasPasses (wires : Made) (number : ℕ) (passes : PassList) : Type 0 where

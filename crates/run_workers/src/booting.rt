@@ -1,5 +1,5 @@
 //! The guests of a description, at their starts.
-ghost use Rattle.std.specs.Prelude.{◌≡◌, ℕ, ◌*◌, ◌<◌, ◌≤◌, [], All, IfOk, map, length, None, Some, slice_get};
+ghost use Rattle.std.specs.Prelude.{◌≡◌, ℕ, ◌*◌, ◌<◌, ◌≤◌, [], All, IfOk, List, map, length, Some, slice_get};
 ghost use Rattle.run_workers.specs.declared.source.Source.{Source};
 ghost use Rattle.machine_desc.specs.declared.machine.GuestSpec.{GuestSpec};
 ghost use Rattle.machine_desc.specs.Described.{described_seen};
@@ -8,28 +8,30 @@ ghost use Rattle.frame_words.specs.FrameRights.{first_view};
 ghost use Rattle.frame_words.specs.Holders.{IsMade};
 ghost use Rattle.node_frames.specs.Layout.{layout_of};
 ghost use Rattle.node_frames.specs.Left.{first_left};
-ghost use Rattle.boot_frames.specs.Claims.{page_claims};
+ghost use Rattle.block_caches.specs.Filling.{disks_seen};
+ghost use Rattle.block_caches.specs.Holding.{AreHeld};
+ghost use Rattle.boot_frames.specs.Claims.{cache_claims, page_claims};
 ghost use Rattle.boot_frames.specs.Lots.{ServesAll, times_given};
 ghost use Rattle.frame_words.specs.Splits.{frame_times};
 ghost use Rattle.boot_frames.specs.Needs.{need_of};
 ghost use Rattle.boot_frames.specs.declared.lots.Lot.{Lot};
-ghost use Rattle.unbuilt_keys.specs.Unbuilt.{unbuilt};
 ghost use Rattle.run_workers.specs.Starting.{IsSource, AreSources, AreServed};
-ghost use Rattle.run_workers.specs.Booting.{home_in, IsSite, IsSeat, board_of, AreSeats, IsLotOf, IsStarted, AreBooted, HasBooted, AreWires, HasPasses, HaveAllPasses};
+ghost use Rattle.run_workers.specs.Booting.{home_disks, home_in, left_by_caches, AreCached, IsSite, IsSeat, board_of, AreSeats, IsLotOf, IsStarted, AreBooted, HasBooted, AreWires, HasPasses, HaveAllPasses};
 
 use crate::{Source, SourceList};
-use base_words::{CellList, GuestId, Sequence, Shape};
+use base_words::{CellId, CellList, GuestId, Sequence, Shape};
+use block_caches::{Caches, HomeDisk, fill_caches};
 use boot_frames::{
-    Lot, Shortage, a_lot_holds_its_frames, an_empty_cache_takes_nothing, each_guest_has_its_lot,
-    needs_of, no_frame_is_given_twice, place,
+    Lot, Placed, Shortage, a_lot_holds_its_frames, each_guest_has_its_lot, needs_of,
+    no_frame_is_given_twice, place,
 };
-use frame_words::{FrameTable, Holder, join};
+use cow_disk::SharedIndex;
+use frame_words::{FrameTable, Holder};
 use guest_core::Guest;
 use guest_course::{Around, Site};
 use machine_desc::{Machine, Plan};
 use shootdown::{GuestSeat, SeatList, TokenList, tokens};
 use std::alloc::{AllocError, Global};
-use unbuilt_keys::built;
 use wire_queue::{AllPasses, PassList, Wires};
 
 /// A copy of a list.
@@ -72,47 +74,28 @@ fn site_of(alloc: Global, machine: &Machine) -> Result<Site, AllocError>
     })
 }
 
-/// Ends the holders of caches that have no frames.
-fn join_caches(table: &FrameTable, holder: &mut Holder, caches: Vec<Lot>)
-    requires made { IsMade table.now holder.old }
-    requires nothing { holder.old.view.holds ≡ [] }
-    requires empty { All (λ (lot : Lot). (lot.holder.view.holds ≡ []) × IsMade table.now lot.holder) caches.items }
-    ensures nothing { holder.new.view.holds ≡ [] }
-    ensures same { holder.new.table ≡ holder.old.table }
-{
-    for cache in caches {
-        let Lot {
-            frames: _,
-            holder: last,
-        } = cache;
-        join(table, holder, last);
-    }
-}
-
-/// The frames of all guests, each with a holder. The cells' caches have none.
+/// The frames of the cells' caches and of all guests, each with a holder.
 fn lots_of(
     alloc: Global,
     machine: &Machine,
     plan: &Plan,
     table: &FrameTable,
     holder: &mut Holder,
-) -> Result<Vec<Lot>, AllocError>
+) -> Result<Placed, AllocError>
     requires described { IsDescribed machine.now plan.now }
-    requires built { unbuilt (described_seen machine.now plan.now) ≡ None }
     requires served { AreServed (layout_of machine.now.shape) machine.now.lends machine.now.cache machine.now.guests }
     requires made { IsMade table.now holder.old }
     requires first { holder.old.view ≡ first_view table.now.terms }
     requires frames { table.now.terms.frames ≡ machine.now.shape.nodes * machine.now.shape.frames }
     requires fresh { table.now.terms.first ≡ 0 }
     requires lends { table.now.terms.lends ≡ machine.now.lends }
-    ensures serves { IfOk result (λ lots. ServesAll table.now (layout_of machine.now.shape) (first_left (layout_of machine.now.shape) machine.now.lends) (page_claims 0 (map need_of machine.now.guests)) lots.items) }
-    ensures once { IfOk result (λ lots. (frame : ℕ) → times_given frame lots.items ≤ 1) }
-    ensures rest { IfOk result (λ lots. holder.new.view.holds ≡ []) }
+    ensures caches { IfOk result (λ placed. ServesAll table.now (layout_of machine.now.shape) (first_left (layout_of machine.now.shape) machine.now.lends) (cache_claims machine.now.cache 0 (length machine.now.lends)) placed.caches.items) }
+    ensures guests { IfOk result (λ placed. ServesAll table.now (layout_of machine.now.shape) (left_by_caches machine.now) (page_claims 0 (map need_of machine.now.guests)) placed.guests.items) }
+    ensures once { IfOk result (λ placed. (frame : ℕ) → times_given frame placed.guests.items ≤ 1) }
+    ensures rest { IfOk result (λ placed. holder.new.view.holds ≡ []) }
     ensures same { holder.new.table ≡ holder.old.table }
 {
     let _ = plan;
-    an_empty_cache_takes_nothing();
-    built();
     let needs = needs_of(alloc, machine.guests.as_slice())?;
     let cells = machine.lends.len() as u8;
     let cache = machine.cache;
@@ -125,10 +108,7 @@ fn lots_of(
         cache,
         needs.as_slice(),
     ) {
-        Ok(placed) => {
-            join_caches(table, holder, placed.caches);
-            Ok(placed.guests)
-        }
+        Ok(placed) => Ok(placed),
         Err(Shortage::Memory) => Err(AllocError),
         Err(Shortage::Cell { .. }) => unreachable!(),
         Err(Shortage::Guest { .. }) => unreachable!(),
@@ -147,9 +127,9 @@ fn boot_one(
     table: &FrameTable,
     wires: &Wires,
     passes: PassList,
+    indexes: &[SharedIndex],
 ) -> Result<Guest, AllocError>
     requires described { IsDescribed machine.now plan.now }
-    requires built { unbuilt (described_seen machine.now plan.now) ≡ None }
     requires there { number < length machine.now.guests }
     requires source { (spec : GuestSpec) → slice_get machine.now.guests number ≡ Some spec → IsSource spec source }
     requires once { (frame : ℕ) → frame_times frame lot.frames ≤ 1 }
@@ -158,21 +138,27 @@ fn boot_one(
     requires seat { IsSeat seat.board number seat }
     requires frames { table.now.terms.frames ≡ machine.now.shape.nodes * machine.now.shape.frames }
     requires lends { table.now.terms.lends ≡ machine.now.lends }
-    requires wires { AreWires (length machine.now.guests) wires.now }
+    requires wires { AreWires machine.now wires.now }
     requires passes { HasPasses wires.now number passes }
-    ensures { IfOk result (IsStarted (described_seen machine.now plan.now) source seat.board (record { table = table.now; wires = wires.now }) number) }
+    requires cached { (sources : List Source) × AreCached (described_seen machine.now plan.now) sources table.now indexes.now }
+    ensures { IfOk result (IsStarted (described_seen machine.now plan.now) source seat.board (record { table = table.now; wires = wires.now; indexes = indexes.now }) number) }
 {
     a_lot_holds_its_frames();
-    an_empty_cache_takes_nothing();
-    built();
     let _ = table;
+    let _ = indexes;
     let spec = &machine.guests.as_slice()[number];
     let around = Around {
         number: GuestId(number as u8),
+        // A number that is too large becomes the last one, of which no cache keeps a block.
+        disk: u32::try_from(source.number.unwrap_or(0)).unwrap_or(u32::MAX),
         home: spec.node,
         site: site_of(alloc, machine)?,
     };
-    let Source { image, disk } = source;
+    let Source {
+        image,
+        disk,
+        number: _,
+    } = source;
     let Lot { frames, holder } = lot;
     let input = &plan.input.as_slice()[number];
     Guest::boot(
@@ -191,19 +177,20 @@ fn boot_all(
     table: &FrameTable,
     wires: &Wires,
     passes: AllPasses,
+    indexes: &[SharedIndex],
 ) -> Result<Vec<Guest>, AllocError>
     requires described { IsDescribed machine.now plan.now }
-    requires built { unbuilt (described_seen machine.now plan.now) ≡ None }
     requires sources { AreSources machine.now.guests sources }
-    requires lots { ServesAll table.now (layout_of machine.now.shape) (first_left (layout_of machine.now.shape) machine.now.lends) (page_claims 0 (map need_of machine.now.guests)) lots.items }
+    requires lots { ServesAll table.now (layout_of machine.now.shape) (left_by_caches machine.now) (page_claims 0 (map need_of machine.now.guests)) lots.items }
     requires fresh { table.now.terms.first ≡ 0 }
     requires once { (frame : ℕ) → times_given frame lots.items ≤ 1 }
     requires seats { AreSeats (length sources) seats }
     requires frames { table.now.terms.frames ≡ machine.now.shape.nodes * machine.now.shape.frames }
     requires lends { table.now.terms.lends ≡ machine.now.lends }
-    requires wires { AreWires (length machine.now.guests) wires.now }
+    requires wires { AreWires machine.now wires.now }
     requires passes { HaveAllPasses wires.now passes }
-    ensures { IfOk result (λ guests. AreBooted (described_seen machine.now plan.now) sources (board_of seats) (record { table = table.now; wires = wires.now }) guests.items) }
+    requires cached { AreCached (described_seen machine.now plan.now) sources table.now indexes.now }
+    ensures { IfOk result (λ guests. AreBooted (described_seen machine.now plan.now) sources (board_of seats) (record { table = table.now; wires = wires.now; indexes = indexes.now }) guests.items) }
 {
     each_guest_has_its_lot();
     no_frame_is_given_twice();
@@ -223,14 +210,60 @@ fn boot_all(
         };
         let number = guests.len();
         guests.push(boot_one(
-            alloc, machine, plan, number, source, lot, seat, table, wires, ends,
+            alloc, machine, plan, number, source, lot, seat, table, wires, ends, indexes,
         )?)?;
     }
     Ok(guests)
 }
 
+/// The disks of the guests that have one, each with its guest's home cell.
+fn disks_of<'a>(
+    alloc: Global,
+    sources: &'a [Source],
+    homes: &[CellId],
+) -> Result<Vec<HomeDisk<'a>>, AllocError>
+    requires { length sources.now ≡ length homes.now }
+    ensures { IfOk result (λ disks. disks_seen disks.items ≡ home_disks (map (λ c. c.0) homes.now) sources.now) }
+{
+    let mut disks = Vec::new(alloc);
+    for (guest, source) in sources.iter().enumerate() {
+        if let Some(number) = source.number {
+            disks.push(HomeDisk {
+                cell: homes[guest],
+                number,
+                disk: &source.disk,
+            })?;
+        }
+    }
+    Ok(disks)
+}
+
+/// The cells' caches over the frames of these lots.
+fn caches_of(
+    alloc: Global,
+    machine: &Machine,
+    plan: &Plan,
+    sources: &SourceList,
+    lots: Vec<Lot>,
+    table: &FrameTable,
+    homes: &CellList,
+) -> Result<Caches, AllocError>
+    requires described { IsDescribed machine.now plan.now }
+    requires sources { AreSources machine.now.guests sources.now }
+    requires lots { ServesAll table.now (layout_of machine.now.shape) (first_left (layout_of machine.now.shape) machine.now.lends) (cache_claims machine.now.cache 0 (length machine.now.lends)) lots.items }
+    requires homes { map (λ c. c.0) homes.now ≡ map (home_in machine.now) machine.now.guests }
+    ensures cached { IfOk result (λ c. AreCached (described_seen machine.now plan.now) sources.now table.now c.indexes.items) }
+    ensures held { IfOk result (λ c. AreHeld table.now c.indexes.items c.holders.items) }
+{
+    let _ = table;
+    let _ = machine;
+    let _ = plan;
+    let disks = disks_of(alloc, sources.as_slice(), homes.as_slice())?;
+    fill_caches(alloc, lots, disks.as_slice(), sources.len())
+}
+
 /// What a run begins with: the guests of a description, a token for each of its processors, the table of the guests' frames with its
-/// first holder, which has nothing, and the wires between the guests.
+/// first holder, which has nothing, the wires between the guests, and the cells' caches.
 #[derive(Drop)]
 pub struct Booted {
     pub guests: Vec<Guest>,
@@ -238,10 +271,11 @@ pub struct Booted {
     pub table: FrameTable,
     pub holder: Holder,
     pub wires: Wires,
+    pub caches: Caches,
 }
 
-/// The guests of a description, each of its source and on the frames of its lot, with all that their run begins with. An error is want
-/// of memory.
+/// The guests of a description, each of its source and on the frames of its lot, with all that their run begins with. The cells' caches are
+/// filled. An error is want of memory.
 pub fn boot(
     alloc: Global,
     machine: &Machine,
@@ -249,22 +283,35 @@ pub fn boot(
     sources: SourceList,
 ) -> Result<Booted, AllocError>
     requires described { IsDescribed machine.now plan.now }
-    requires built { unbuilt (described_seen machine.now plan.now) ≡ None }
     requires served { AreServed (layout_of machine.now.shape) machine.now.lends machine.now.cache machine.now.guests }
     requires sources { AreSources machine.now.guests sources }
-    ensures booted { IfOk result (λ b. HasBooted (described_seen machine.now plan.now) sources b.guests.items b.tokens (record { table = b.table; wires = b.wires }) b.holder) }
+    ensures booted { IfOk result (λ b. HasBooted (described_seen machine.now plan.now) sources b.guests.items b.tokens (record { table = b.table; wires = b.wires; indexes = b.caches.indexes.items }) b.holder) }
+    ensures held { IfOk result (λ b. AreHeld b.table b.caches.indexes.items b.caches.holders.items) }
     ensures frames { IfOk result (λ b. b.table.terms.frames ≡ machine.now.shape.nodes * machine.now.shape.frames) }
     ensures lends { IfOk result (λ b. b.table.terms.lends ≡ machine.now.lends) }
 {
     let frames = u32::from(machine.shape.nodes) * machine.shape.frames;
     let (table, mut holder) = FrameTable::new(alloc, frames, machine.lends.as_slice(), 0)?;
-    let lots = lots_of(alloc, machine, plan, &table, &mut holder)?;
+    let Placed {
+        caches: cache_lots,
+        guests: lots,
+    } = lots_of(alloc, machine, plan, &table, &mut holder)?;
     let count = sources.len() as u8;
     let (tokens, seats) = tokens(alloc, machine.processors.len() as u8, count)?;
     let homes = homes_of(alloc, machine)?;
+    let caches = caches_of(alloc, machine, plan, &sources, cache_lots, &table, &homes)?;
     let (wires, passes) = Wires::new(alloc, count, &machine.shape, &homes)?;
     let guests = boot_all(
-        alloc, machine, plan, sources, lots, seats, &table, &wires, passes,
+        alloc,
+        machine,
+        plan,
+        sources,
+        lots,
+        seats,
+        &table,
+        &wires,
+        passes,
+        &caches.indexes,
     )?;
     Ok(Booted {
         guests,
@@ -272,5 +319,6 @@ pub fn boot(
         table,
         holder,
         wires,
+        caches,
     })
 }

@@ -14,7 +14,7 @@ use std::sync::Wait;
 /// Whether a guest has taken all that these others sent to it.
 fn has_all<R: Wait>(rt: &R, guest: &mut Guest, others: &mut [Guest], resources: &Resources) -> bool
     requires wires { guest.old.wires ≡ resources.now.wires.now }
-    requires others { AreOthers (record { table = resources.now.table.now; wires = resources.now.wires.now }) guest.old others.old }
+    requires others { AreOthers (shared_by resources.now) guest.old others.old }
     ensures guest { KeepsEnds guest.old guest.new }
     ensures kept { AreKept others.old others.new }
     ensures all { OnTrue result (HasAll guest.new others.new) }
@@ -36,8 +36,8 @@ fn has_everything<R: Wait>(
     resources: &Resources,
 ) -> bool
     requires wires { guest.old.wires ≡ resources.now.wires.now }
-    requires before { AreOthers (record { table = resources.now.table.now; wires = resources.now.wires.now }) guest.old before.old }
-    requires after { AreOthers (record { table = resources.now.table.now; wires = resources.now.wires.now }) guest.old after.old }
+    requires before { AreOthers (shared_by resources.now) guest.old before.old }
+    requires after { AreOthers (shared_by resources.now) guest.old after.old }
     ensures guest { KeepsEnds guest.old guest.new }
     ensures before { AreKept before.old before.new }
     ensures after { AreKept after.old after.new }
@@ -60,8 +60,8 @@ fn settle<R: Wait>(
     resources: &Resources,
 ) -> Result<(), AllocError>
     requires shared { AreOf (shared_by resources.now) guest.old }
-    requires before { AreOthers (record { table = resources.now.table.now; wires = resources.now.wires.now }) guest.old before.old }
-    requires after { AreOthers (record { table = resources.now.table.now; wires = resources.now.wires.now }) guest.old after.old }
+    requires before { AreOthers (shared_by resources.now) guest.old before.old }
+    requires after { AreOthers (shared_by resources.now) guest.old after.old }
     ensures receives { OnOk result (Receives guest.old guest.new) }
     ensures none { OnOk result (HasNone guest.new) }
     ensures all_before { OnOk result (HasAll guest.new before.new) }

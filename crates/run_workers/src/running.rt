@@ -18,6 +18,8 @@ use crate::draining::settle_all;
 use crate::ending::end_all;
 use crate::ordering::in_order;
 use crate::workers::{all_work, parts, workers_of};
+use block_caches::end_caches;
+use cow_disk::SharedIndex;
 use frame_words::{FrameTable, Holder, close};
 use guest_core::{Guest, Resources, RunRecord};
 use guest_lock::{GuestCells, Starts};
@@ -42,13 +44,14 @@ fn run_named<N: Starts + Send + Sync, R: Threads + Wait + Sync, G: Gate>(
     table: &FrameTable,
     first: &mut Holder,
     wires: &Wires,
+    indexes: &[SharedIndex],
     plan: &Plan,
     gate: &G,
 ) -> Result<(RunRecord, AllPasses), AllocError>
     requires starts { N.starts ≡ map start_of guests.items }
     requires board { N.board ≡ board_of_tokens tokens }
-    requires shared { N.shared ≡ record { table = table.now; wires = wires.now } }
-    requires may { MayRun guests.items tokens (record { table = table.now; wires = wires.now }) plan.now.items }
+    requires shared { N.shared ≡ record { table = table.now; wires = wires.now; indexes = indexes.now } }
+    requires may { MayRun guests.items tokens (record { table = table.now; wires = wires.now; indexes = indexes.now }) plan.now.items }
     requires made { IsMade table.now first.old }
     requires nothing { first.old.view.holds ≡ [] }
     ensures run { IfOk result (λ out. IsRunOf (map start_of guests.items) plan.now.items wires.now out.0 out.1) }
@@ -57,7 +60,11 @@ fn run_named<N: Starts + Send + Sync, R: Threads + Wait + Sync, G: Gate>(
     ensures same { IfOk result (λ out. first.new.table ≡ first.old.table) }
 {
     plans_are_due();
-    let resources = Resources { table, wires };
+    let resources = Resources {
+        table,
+        wires,
+        indexes,
+    };
     let cells: GuestCells<N> = GuestCells::new(guests);
     let mut workers = workers_of(alloc, tokens)?;
     all_work(rt, alloc, &cells, &resources, plan, gate, &mut workers);
@@ -85,7 +92,8 @@ pub struct Finished {
     pub passes: AllPasses,
 }
 
-/// Starts the guests and carries the plan out, and hands out what the run leaves. An error is want of memory.
+/// Starts the guests and carries the plan out, and hands out what the run leaves: the guests and the caches have given their frames back. An
+/// error is want of memory.
 pub fn finish<R: Threads + Wait + Sync, G: Gate>(
     rt: &R,
     alloc: Global,
@@ -115,9 +123,11 @@ pub fn finish<R: Threads + Wait + Sync, G: Gate>(
         &booted.table,
         &mut booted.holder,
         &booted.wires,
+        &booted.caches.indexes,
         plan,
         gate,
     )?;
+    end_caches(booted.caches, &booted.table, &mut booted.holder);
     Ok(Finished {
         record,
         table: booted.table,
@@ -127,7 +137,7 @@ pub fn finish<R: Threads + Wait + Sync, G: Gate>(
     })
 }
 
-/// Starts the guests and carries the plan out. At the end each guest has given its frames back.
+/// Starts the guests and carries the plan out. At the end each guest and each cache has given its frames back.
 pub fn run<R: Threads + Wait + Sync, G: Gate>(
     rt: &R,
     alloc: Global,

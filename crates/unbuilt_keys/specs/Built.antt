@@ -4,5 +4,4 @@ use Rattle.machine_desc.specs.Described.{Described}
 use Rattle.unbuilt_keys.specs.Unbuilt.{is_built}
 
 pub record IsBuilt (d : Described) : Type 0 where
-  pub no_cache : d.cache ≡ 0
   pub built : All (λ item. is_built item ≡ true) d.items

@@ -1,5 +1,5 @@
 -- What a description may ask for, and isn't built yet.
-use Rattle.std.specs.Prelude.{◌==◌, not, List, Bool, true, false, if◌then◌else◌, Option, Some, option_map, position}
+use Rattle.std.specs.Prelude.{not, List, Bool, true, false, Option, option_map, position}
 use Rattle.machine_desc.specs.declared.plan.Item.{Item}
 use Rattle.machine_desc.specs.declared.plan.Item.TheVariants.{Run, Move, Fail}
 use Rattle.machine_desc.specs.Described.{Described}
@@ -16,6 +16,5 @@ is_built (Fail processor cell) = false
 abbrev pub work_key : List Item → Option UnbuiltKey
 work_key items = option_map (λ item. key.Act item) (position (λ item. not (is_built item)) items)
 
--- an index of shared blocks comes before the work
-unfoldable pub unbuilt : Described → Option UnbuiltKey
-unbuilt d = if d.cache == 0 then work_key d.items else Some key.Cache
+abbrev pub unbuilt : Described → Option UnbuiltKey
+unbuilt d = work_key d.items

@@ -1,10 +1,11 @@
 //! The first key that isn't built.
 ghost use Rattle.std.specs.Prelude.{◌≡◌, position, not};
 ghost use Rattle.machine_desc.specs.Described.{described_seen};
+ghost use Rattle.machine_desc.specs.declared.machine.Machine.{Machine};
 ghost use Rattle.unbuilt_keys.specs.Unbuilt.{unbuilt as first_unbuilt, is_built as item_is_built};
 
 use crate::UnbuiltKey;
-use machine_desc::{Item, Machine, Plan};
+use machine_desc::{Item, Plan};
 
 /// Whether an item is no failure.
 fn is_built(item: &Item) -> bool
@@ -23,15 +24,10 @@ fn first_act(items: &[Item]) -> Option<usize>
     items.iter().position(|item| !is_built(item))
 }
 
-/// The first key of a description that isn't built, in the order of the description: the machine's, then the work's. `None` where all of
-/// it is built.
-#[tactic(auto, unfolding(crate::specs::Unbuilt::unbuilt))]
-pub fn unbuilt(machine: &Machine, plan: &Plan) -> Option<UnbuiltKey>
-    ensures { result ≡ first_unbuilt (described_seen machine.now plan.now) }
+/// The first key of a description that isn't built: a piece of work of its plan. `None` where all of it is built.
+pub fn unbuilt(plan: &Plan) -> Option<UnbuiltKey>
+    ensures { (machine : Machine) → result ≡ first_unbuilt (described_seen machine plan.now) }
 {
-    if machine.cache != 0 {
-        return Some(UnbuiltKey::Cache);
-    }
     let item = first_act(plan.items.as_slice())?;
     Some(UnbuiltKey::Act(item))
 }

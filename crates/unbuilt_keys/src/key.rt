@@ -3,8 +3,6 @@
 /// What a description may ask for, and isn't built yet. The number is that of a piece of work.
 #[derive(Clone, Copy, Debug, PartialEq, Eq)]
 pub enum UnbuiltKey {
-    /// An index of shared blocks.
-    Cache,
     /// The failure of a cell.
     Act(usize),
 }

@@ -70,3 +70,15 @@ returns-clause-no_seed c = refl
 pub returns-clause-help : goal.returns-clause-help
 unfolding form_of clap_on_literals
 returns-clause-help c = refl
+
+pub returns-clause-seed : goal.returns-clause-seed
+unfolding form_of clap_on_literals
+returns-clause-seed c = refl
+
+pub returns-clause-greatest_seed : goal.returns-clause-greatest_seed
+unfolding form_of clap_on_literals
+returns-clause-greatest_seed c = refl
+
+pub returns-clause-seed_steps : goal.returns-clause-seed_steps
+unfolding form_of clap_on_literals
+returns-clause-seed_steps c = refl

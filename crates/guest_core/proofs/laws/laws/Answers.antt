@@ -25,10 +25,13 @@ returns-clause-moves c = record {
   refills = c.moves_counted.ensures.refills;
   emulates = c.moves_counted.ensures.emulates;
   begins = c.moves_counted.ensures.begins;
+  ends_read = c.moves_counted.ensures.ends_read;
   acks = c.moves_counted.ensures.acks;
   finishes = c.moves_counted.ensures.finishes;
   comes_to_hand = c.moves_counted.ensures.comes_to_hand;
+  lets_go = c.moves_counted.ensures.lets_go;
   receives = c.moves_counted.ensures.receives;
+  ends_delivery = c.moves_counted.ensures.ends_delivery;
   skips = c.moves_counted.ensures.skips;
   ends = c.moves_counted.ensures.ends;
 }
@@ -50,4 +53,6 @@ returns-clause-takes c = record {
   comes = c.takes.ensures.comes;
   received = c.takes.ensures.received;
   tells = c.takes.ensures.tells;
+  ended = c.takes.ensures.ended;
+  tells_ended = c.takes.ensures.tells_ended;
 }

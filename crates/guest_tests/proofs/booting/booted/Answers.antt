@@ -4,4 +4,4 @@ use Rattle.guest_tests.proofs.booting.booted.Goals as goal
 
 pub returns : goal.returns
 returns c =
-    IfOk-weaker c.boot.result _ _ (λ b has. ready c.args.machine.now c.args.plan.now c.args.sources b.guests.items b.tokens (record { table = b.table; wires = b.wires }) b.holder c.requires.described c.requires.sources has) c.boot.ensures.booted
+    IfOk-weaker c.boot.result _ _ (λ b has. ready c.args.machine.now c.args.plan.now c.args.sources b.guests.items b.tokens (record { table = b.table; wires = b.wires; indexes = b.caches.indexes.items }) b.holder c.requires.described c.requires.sources has) c.boot.ensures.booted

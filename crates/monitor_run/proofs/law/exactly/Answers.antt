@@ -1,4 +1,5 @@
 use Rattle.monitor_run.proofs.Statuses.{words_status, only_words_status, told_status, absent_status, only_read_status, only_write_status, only_asm_status, only_litmus_status}
+use Rattle.monitor_run.proofs.MadeRuns.{made_status}
 use Rattle.monitor_run.proofs.law.exactly.Goals as goal
 
 pub returns-clause-words : goal.returns-clause-words
@@ -9,6 +10,9 @@ returns-clause-only_words c = λ w a b x y out status answers. only_words_status
 
 pub returns-clause-told : goal.returns-clause-told
 returns-clause-told c = λ w a b x y out status files answers. told_status w a b x y out status answers (c.steady.ensures w) files
+
+pub returns-clause-made : goal.returns-clause-made
+returns-clause-made c = λ w a b x y out status answers. made_status w a b x y out status answers c.made_accepted.ensures
 
 pub returns-clause-absent : goal.returns-clause-absent
 returns-clause-absent c = λ w a b x y out status files name answers are. absent_status w a b x y out status answers (c.steady.ensures w) files are name

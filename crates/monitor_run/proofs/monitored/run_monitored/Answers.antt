@@ -30,9 +30,9 @@ run-requires-clause-sources g c κs within =
     let setup = c.args.setup in
     let ready = c.requires.setup in
     let disk = disk_numbered (disks_seen setup.disks) in
-    let made = c.in_ok-sources.ensures ∙ ap (λ (l : List (Option ℕ)). sources_of setup.images (map disk l)) c.as_slice.ensures in
+    let made = c.in_ok-sources.ensures ∙ ap (λ (l : List (Option ℕ)). sources_of (disks_seen setup.disks) setup.images l) c.as_slice.ensures in
     subst (λ (l : List Source). AreSources setup.machine.guests l) (sym made)
-    (AreSources-started setup.machine.guests setup.images (map disk setup.numbers) (ready.images ∙ sym ready.numbers ∙ sym (length-map setup.numbers disk)) ready.started)
+    (AreSources-started (disks_seen setup.disks) setup.machine.guests setup.images setup.numbers (ready.images ∙ sym ready.numbers) ready.started)
 
 pub returns : goal.returns
 returns g c =
@@ -40,8 +40,8 @@ returns g c =
     let d = described_seen setup.machine setup.plan in
     let ready = c.requires.setup in
     let disk = disk_numbered (disks_seen setup.disks) in
-    let made = c.in_ok-sources.ensures ∙ ap (λ (l : List (Option ℕ)). sources_of setup.images (map disk l)) c.as_slice.ensures in
+    let made = c.in_ok-sources.ensures ∙ ap (λ (l : List (Option ℕ)). sources_of (disks_seen setup.disks) setup.images l) c.as_slice.ensures in
     IfOk-weaker c.run.result _ _
-    (λ out is. IsRun-from d c.isolation.ensures setup.images (map disk setup.numbers) is.0 out ready.described (ready.images ∙ sym ready.numbers ∙ sym (length-map setup.numbers disk)) ready.started
+    (λ out is. IsRun-from d c.isolation.ensures (disks_seen setup.disks) setup.images setup.numbers is.0 out ready.described (ready.images ∙ sym ready.numbers) ready.started
     (subst (λ (l : List Source). AreStarts d 0 setup.machine.guests l setup.plan.input is.0) made is.1) is.2)
     c.run.ensures

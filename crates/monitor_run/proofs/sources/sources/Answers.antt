@@ -13,4 +13,4 @@ with_disks-requires-clause-few c =
 pub returns : goal.returns
 returns c =
     let blocks : shared_blocks c.as_slice.result.now ≡ disks_seen c.args.disks = ap shared_blocks c.as_slice.ensures ∙ ap disks_seen c.in_ok-bases.ensures in
-    IfOk-weaker c.with_disks.result _ _ (λ list is. is ∙ ap (λ (l : List (List (List ℕ))). sources_of c.args.images (map (disk_numbered l) c.args.numbers.now)) blocks) c.with_disks.ensures
+    IfOk-weaker c.with_disks.result _ _ (λ list is. is ∙ ap (λ (l : List (List (List ℕ))). sources_of l c.args.images c.args.numbers.now) blocks) c.with_disks.ensures

@@ -1,5 +1,4 @@
 use Rattle.std.proofs.Common.{rules, ◌≡◌, ◌+◌, ◌<◌, ◌≤◌, ◌++◌, ℕ, List, [], ◌∷◌, map, length, get_or, Option, None, sym, ap, ◌∙◌, subst, arith, append_assoc, length-append}
-use Rattle.std.proofs.lemmas.List.{get_or-map, length-map}
 use Rattle.elf_image.specs.declared.image.Image.{Image}
 use Rattle.private_machine.specs.Disk.{Block}
 use Rattle.admission.specs.Views.{disk_numbered}
@@ -34,7 +33,7 @@ pub loop-image-preserved : goal.loop-image-preserved
 loop-image-preserved c =
     let i = c.loop-image.invariant in
     let numbers : List (Option ℕ) = c.args.numbers.now in
-    let f : Option ℕ → List (List ℕ) = disk_numbered (shared_blocks c.args.bases.now) in
+    let disks = shared_blocks c.args.bases.now in
     let yielded = c.loop-image.yielded in
     let image = c.in-Some.image in
     let number : Option ℕ = c.number_at-number.result in
@@ -42,18 +41,16 @@ loop-image-preserved c =
     let there = image-there c.args.images yielded _ _ image i.4 next in
     let many = c.requires.many in
     let within : length yielded < length numbers = omega (arith, there, many) in
-    let count = length-map numbers f in
     let len : c.len.result ≡ length c.loop-image.sources = search rules in
     let place : c.len.result ≡ length yielded = len ∙ i.3 in
     let at : number ≡ get_or numbers (length yielded) None = c.number_at-number.ensures ∙ ap (λ (n : ℕ). get_or numbers n None) place in
-    let disk : f number ≡ get_or (map f numbers) (length yielded) [] = ap f at ∙ sym (get_or-map f numbers (length yielded) None [] within) in
-    let source : Source = record { image = image; disk = c.in_ok-disk.disk } in
-    let made : source ≡ source_of image (f number) = ap (λ (d : List Block). let s : Source = record { image = image; disk = d } in s) c.in_ok-disk.ensures in
+    let source : Source = record { image = image; disk = c.in_ok-disk.disk; number = number } in
+    let made : source ≡ source_of disks image number = ap (λ (d : List Block). let s : Source = record { image = image; disk = d; number = number } in s) c.in_ok-disk.ensures in
     let grown : c.push.new.self ≡ c.loop-image.sources ++ source ∷ [] = c.in_ok-push.ensures.ok in (
       tt,
       tt,
-      grown ∙ ap (λ (s : Source). c.loop-image.sources ++ s ∷ []) made ∙ ap (λ (l : List Source). l ++ source_of image (f number) ∷ []) i.2
-          ∙ sym (sources_of-next yielded (map f numbers) image (f number) (omega (arith, within, count)) disk),
+      grown ∙ ap (λ (s : Source). c.loop-image.sources ++ s ∷ []) made ∙ ap (λ (l : List Source). l ++ source_of disks image number ∷ []) i.2
+          ∙ sym (sources_of-next disks yielded numbers image number within at),
       ap (λ (l : List Source). length l) grown ∙ length-append c.loop-image.sources (source ∷ []) ∙ ap (λ (n : ℕ). n + 1) i.3 ∙ sym (length-append yielded (image ∷ [])),
       append_assoc yielded (image ∷ []) _ ∙ ap (λ (l : List Image). yielded ++ l) (sym next) ∙ i.4,
     )

@@ -6,11 +6,10 @@ use Rattle.run_workers.specs.declared.source.Source.{Source}
 use Rattle.shootdown.specs.Notes.{Seat}
 use Rattle.machine_desc.specs.Described.{described_seen}
 use Rattle.guest_core.specs.GuestView.{Monitored, Shared}
-use Rattle.run_workers.specs.Booting.{board_of, IsStarted, AreBooted}
+use Rattle.run_workers.specs.Booting.{board_of, left_by_caches, IsStarted, AreBooted}
 use Rattle.wire_queue.specs.declared.lists.PassList.{PassList}
 use Rattle.boot_frames.specs.declared.lots.Lot.{Lot}
 use Rattle.node_frames.specs.Layout.{layout_of}
-use Rattle.node_frames.specs.Left.{first_left}
 use Rattle.boot_frames.specs.Needs.{need_of}
 use Rattle.run_workers.proofs.RunLemmas.{map-get}
 use Rattle.run_workers.proofs.LotLemmas.{next-lot, rest-lots, no-more}
@@ -21,7 +20,7 @@ pub loop-source-init : goal.loop-source-init
 loop-source-init c =
     let d = described_seen c.args.machine.now c.args.plan.now in
     let board = board_of c.args.seats in
-    let shared : Shared = record { table = c.args.table.now; wires = c.args.wires.now } in
+    let shared : Shared = record { table = c.args.table.now; wires = c.args.wires.now; indexes = c.args.indexes.now } in
     let ends : into_iter_items c.into_iter-passes.result ≡ c.args.passes = c.into_iter-passes.ensures.rest ∙ c.into_vec-2.ensures in
     let lots : into_iter_items c.into_iter-lots.result ≡ c.args.lots.items = c.into_iter-lots.ensures.rest in
     let guests : c.new-guests.result.items ≡ [] = search rules in
@@ -62,7 +61,7 @@ pub unreachable-requires-in_default-next : goal.unreachable-requires-in_default-
 unreachable-requires-in_default-next c =
     let i = c.loop-source.invariant in
     let machine = c.args.machine.now in
-    let left = first_left (layout_of machine.shape) machine.lends in
+    let left = left_by_caches machine in
     let next = next-source machine c.args.plan.now c.args.sources c.loop-source.yielded _ _ c.in-Some.source c.requires.described c.requires.sources i.5 c.in-Some.ensures.steps.0 in
     let lots = c.each_guest_has_its_lot.ensures.all c.args.table.now (layout_of machine.shape) left (map need_of machine.guests) c.args.lots.items c.requires.lots in
     let needs = length-map machine.guests need_of in
@@ -77,7 +76,7 @@ boot_one-requires-clause-lot c = λ spec e.
     let i = c.loop-source.invariant in
     let machine = c.args.machine.now in
     let layout = layout_of machine.shape in
-    let left = first_left layout machine.lends in
+    let left = left_by_caches machine in
     let number : c.len-number.result ≡ length c.loop-source.guests.items = search rules in
     let at : slice_get c.args.lots.items c.len-number.result ≡ Some c.in-Some-next-2.lot = next-lot c.args.lots.items _ (length c.loop-source.guests.items) c.in-Some-next-2.lot c.len-number.result number (sym i.6 ∙ c.in-Some-next-2.ensures.cases.0) in
     c.each_guest_has_its_lot.ensures.each c.args.table.now layout left (map need_of machine.guests) c.args.lots.items c.requires.lots c.len-number.result (need_of spec) c.in-Some-next-2.lot (map-get need_of machine.guests c.len-number.result spec e) at
@@ -101,7 +100,7 @@ loop-source-preserved c =
     let left = into_iter_items c.next-in-loop-source.new.self in
     let next = next-source c.args.machine.now c.args.plan.now c.args.sources c.loop-source.yielded _ _ c.in-Some.source c.requires.described c.requires.sources i.5 c.in-Some.ensures.steps.0 in
     let all = i.4 in
-    let shared : Shared = record { table = c.args.table.now; wires = c.args.wires.now } in
+    let shared : Shared = record { table = c.args.table.now; wires = c.args.wires.now; indexes = c.args.indexes.now } in
     let taken : into_iter_items c.loop-source.seats ≡ seat ∷ left = c.in-Some-next.ensures.cases.0 in
     let fewer = ap (λ (l : List Seat). length l) taken in
     let seats = subst (λ (l : List Seat). SeatsFrom board (length was) l) taken i.3 in

@@ -9,7 +9,7 @@ abbrev pub invariant-loop-source : goal.invariant-loop-source
 invariant-loop-source l =
     (goal.iterator-loop-source).can_next l.source-iterator
     × (goal.iterator-loop-source).is_finite l.source-iterator
-    × AreBooted (described_seen l.machine l.plan) l.yielded (board_of l.fn.seats) (record { table = l.table; wires = l.wires }) l.guests.items
+    × AreBooted (described_seen l.machine l.plan) l.yielded (board_of l.fn.seats) (record { table = l.table; wires = l.wires; indexes = l.indexes }) l.guests.items
     × SeatsFrom (board_of l.fn.seats) (length l.guests.items) (into_iter_items l.seats)
     × (length l.guests.items + length (into_iter_items l.seats) ≡ length l.fn.sources)
     × (l.yielded ++ into_iter_items l.source-iterator ≡ l.fn.sources)

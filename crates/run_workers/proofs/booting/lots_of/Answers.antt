@@ -1,4 +1,4 @@
-use Rattle.std.proofs.Common.{◌<◌, ℕ, List, map, sym, ap, ◌∙◌, subst}
+use Rattle.std.proofs.Common.{◌≡◌, ◌<◌, ℕ, List, length, map, sym, ap, ◌∙◌, subst}
 use Rattle.std.specs.Prelude.{All}
 use Rattle.node_frames.specs.Layout.{layout_of}
 use Rattle.node_frames.specs.Left.{Left, first_left}
@@ -9,6 +9,7 @@ use Rattle.boot_frames.specs.Claims.{cache_claims, page_claims}
 use Rattle.boot_frames.specs.Lots.{ServesAll}
 use Rattle.boot_frames.specs.Needs.{need_of}
 use Rattle.boot_frames.specs.declared.needs.Need.{Need}
+use Rattle.run_workers.specs.Booting.{left_by_caches}
 use Rattle.run_workers.proofs.LotLemmas.{rest-once}
 use Rattle.run_workers.proofs.booting.lots_of.Goals as goal
 
@@ -19,30 +20,28 @@ place-requires-clause-nodes c =
     let guests = subst (λ (l : List GuestSpec). All (IsGuest nodes) l) (sym c.as_slice.ensures) c.requires.described.guests in
     subst (λ (l : List Need). All (λ (need : Need). need.node.0 < nodes) l) (sym c.as_slice-2.ensures.value) (c.in_ok-needs.ensures.at_home nodes guests)
 
--- the caches are empty
-pub join_caches-requires-clause-empty : goal.join_caches-requires-clause-empty
-join_caches-requires-clause-empty c =
+-- the caches have what they claim of all that there is
+pub returns-in-Ok-clause-caches : goal.returns-in-Ok-clause-caches
+returns-in-Ok-clause-caches c =
     let machine = c.args.machine.now in
     let table = c.args.table.now in
     let layout = layout_of machine.shape in
-    let left = first_left layout table.terms.lends in
-    let cells = c.len-cells.result in
-    c.an_empty_cache_takes_nothing.ensures.lots table layout left cells c.in-Ok.placed.caches.items
-    (subst (λ (cache : ℕ). ServesAll table layout left (cache_claims cache 0 cells) c.in-Ok.placed.caches.items) (c.built.ensures _ c.requires.built).no_cache c.in-Ok.ensures.caches)
+    let lots = c.in-Ok.placed.caches.items in
+    subst (λ (lends : List ℕ). ServesAll table layout (first_left layout lends) (cache_claims machine.cache 0 (length machine.lends)) lots) c.requires.lends
+    (subst (λ (cells : ℕ). ServesAll table layout (first_left layout table.terms.lends) (cache_claims machine.cache 0 cells) lots) c.len-cells.ensures c.in-Ok.ensures.caches)
 
--- and leave all to the guests
-pub returns-in-Ok-clause-serves : goal.returns-in-Ok-clause-serves
-returns-in-Ok-clause-serves c =
+-- and leave the rest to the guests
+pub returns-in-Ok-clause-guests : goal.returns-in-Ok-clause-guests
+returns-in-Ok-clause-guests c =
     let machine = c.args.machine.now in
     let table = c.args.table.now in
     let layout = layout_of machine.shape in
-    let cells = c.len-cells.result in
     let lots = c.in-Ok.placed.guests.items in
     let needs = c.as_slice-2.ensures.value ∙ c.in_ok-needs.ensures.needs ∙ ap (λ (l : List GuestSpec). map need_of l) c.as_slice.ensures in
-    let left = ap (λ (cache : ℕ). after_claims layout (cache_claims cache 0 cells) (first_left layout table.terms.lends)) (c.built.ensures _ c.requires.built).no_cache
-    ∙ c.an_empty_cache_takes_nothing.ensures.left layout cells (first_left layout table.terms.lends) ∙ ap (first_left layout) c.requires.lends in
+    let left : after_claims layout (cache_claims machine.cache 0 c.len-cells.result) (first_left layout table.terms.lends) ≡ left_by_caches machine =
+    (λ i. after_claims layout (cache_claims machine.cache 0 (c.len-cells.ensures i)) (first_left layout (c.requires.lends i))) in
     subst (λ (l : Left). ServesAll table layout l (page_claims 0 (map need_of machine.guests)) lots) left
-    (subst (λ (ns : List Need). ServesAll table layout (after_claims layout (cache_claims machine.cache 0 cells) (first_left layout table.terms.lends)) (page_claims 0 ns) lots) needs c.in-Ok.ensures.guests)
+    (subst (λ (ns : List Need). ServesAll table layout (after_claims layout (cache_claims machine.cache 0 c.len-cells.result) (first_left layout table.terms.lends)) (page_claims 0 ns) lots) needs c.in-Ok.ensures.guests)
 
 pub returns-in-Ok-clause-once : goal.returns-in-Ok-clause-once
 returns-in-Ok-clause-once c = λ frame. rest-once frame c.in-Ok.placed.caches.items c.in-Ok.placed.guests.items (c.in-Ok.ensures.apart frame)

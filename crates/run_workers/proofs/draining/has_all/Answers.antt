@@ -1,6 +1,6 @@
 -- One of the others after another is asked.
 use Rattle.std.proofs.Common.{rules, ◌<◌, ◌≤◌, length, true, sym, ap, ◌∙◌, subst, arith}
-use Rattle.guest_core.specs.GuestView.{Monitored, Shared}
+use Rattle.guest_core.specs.GuestView.{Monitored, shared_by}
 use Rattle.guest_core.specs.PacketCalls.{KeepsEnds}
 use Rattle.wire_queue.specs.ListSteps.{HasTaken}
 use Rattle.run_workers.proofs.DrainLemmas.{within, kept-set, ends-trans, told-more, others-kept}
@@ -15,8 +15,7 @@ drained-requires-clause-wires g c =
     let lt : place < length others = search rules in
     let x = get-there others place lt in
     let is = (get-index others place x.0 c.index-others-place.result x.1).1 in
-    let shared : Shared = record { table = c.args.resources.now.table.now; wires = c.args.resources.now.wires.now } in
-    let o = others-kept shared c.args.guest.now c.loop-place.guest c.args.others.now others c.requires.others i.0.ends.guest i.1 in
+    let o = others-kept (shared_by c.args.resources.now) c.args.guest.now c.loop-place.guest c.args.others.now others c.requires.others i.0.ends.guest i.1 in
     (i.0.same.wires ∙ c.requires.wires, ap (λ (m : Monitored). m.wires) is ∙ o.wires place x.0 x.1)
 
 pub drained-requires-clause-other : goal.drained-requires-clause-other
@@ -27,8 +26,7 @@ drained-requires-clause-other g c =
     let lt : place < length others = search rules in
     let x = get-there others place lt in
     let is = (get-index others place x.0 c.index-others-place.result x.1).1 in
-    let shared : Shared = record { table = c.args.resources.now.table.now; wires = c.args.resources.now.wires.now } in
-    let o = others-kept shared c.args.guest.now c.loop-place.guest c.args.others.now others c.requires.others i.0.ends.guest i.1 in
+    let o = others-kept (shared_by c.args.resources.now) c.args.guest.now c.loop-place.guest c.args.others.now others c.requires.others i.0.ends.guest i.1 in
     λ e. o.apart place x.0 x.1 (ap (λ (m : Monitored). m.passes.guest.0) (sym is) ∙ e)
 
 pub returns-then-not-drained-clause-kept : goal.returns-then-not-drained-clause-kept

@@ -27,7 +27,7 @@ pub new-cells-requires : goal.new-cells-requires
 new-cells-requires g c =
     let board = board_of_tokens c.args.tokens in
     subst (λ b. GuestsFrom g.N.Starts.starts b g.N.Starts.shared 0 c.args.guests.items) (sym c.requires.board)
-    (subst (λ (s : List Boot). GuestsFrom s board g.N.Starts.shared 0 c.args.guests.items) (sym c.requires.starts) (subst (λ (t : Shared). GuestsFrom (map start_of c.args.guests.items) board t 0 c.args.guests.items) (sym c.requires.shared) (all-guests board (record { table = c.args.table.now; wires = c.args.wires.now }) c.args.guests.items c.requires.may.guests_are)))
+    (subst (λ (s : List Boot). GuestsFrom s board g.N.Starts.shared 0 c.args.guests.items) (sym c.requires.starts) (subst (λ (t : Shared). GuestsFrom (map start_of c.args.guests.items) board t 0 c.args.guests.items) (sym c.requires.shared) (all-guests board (record { table = c.args.table.now; wires = c.args.wires.now; indexes = c.args.indexes.now }) c.args.guests.items c.requires.may.guests_are)))
 
 pub all_work-requires-clause-ready : goal.all_work-requires-clause-ready
 all_work-requires-clause-ready g c κs within = λ i d l.

@@ -35,7 +35,7 @@ use Rattle.guest_core.proofs.ActLemmas.{acts-begun}
 use Rattle.guest_core.proofs.AskLemmas.{asks-begin, told-begun, told-failed, told-sided, kept-begin, quiet-begin, frame-asks}
 use Rattle.guest_core.proofs.GainLemmas.{held-now, used-now, holding-now, uses-now, same-change}
 use Rattle.guest_core.proofs.OpenCounts.{calls-less, no-less, open-more}
-use Rattle.guest_core.proofs.EnterProofs.{of-these, one-row}
+use Rattle.guest_core.proofs.EnterProofs.{handed-same, of-these, one-row}
 use Rattle.guest_core.proofs.KeptProofs.{as-many}
 use Rattle.guest_core.proofs.RoomLemmas.{two-entries, less-room}
 use Rattle.guest_core.proofs.WiringProofs.{posted-same, quiet-one}
@@ -68,7 +68,7 @@ returns-in-Err-NoFrame-clause-asks c =
     let view = c.change_for-taken.new.holder.view in
     let shown = c.in-Err-NoFrame.shown in
     let shows : NodeShows s.around lends (home_cell s.around) c.args.wish.node.0 shown old.holder.view view =
-    subst (λ (f : FindFault). Refuses s lends (home_cell s.around) c.args.wish.node.0 f old.holder.view view) c.in-Err-NoFrame.field-0-is c.in-Err-NoFrame.ensures.refused in
+    subst (λ (f : FindFault). Refuses s lends (home_cell s.around) (c.args.wish.node ∷ []) f old.holder.view view) c.in-Err-NoFrame.field-0-is c.in-Err-NoFrame.ensures.refused in
     record {
       by = c.args.by;
       asker = c.requires.asked;
@@ -79,11 +79,13 @@ returns-in-Err-NoFrame-clause-asks c =
         same = record {
           number = c.skip.ensures.leaves.same.number;
           start = c.skip.ensures.leaves.same.start;
+          disk = c.skip.ensures.leaves.same.disk;
           board = c.skip.ensures.leaves.same.board;
           table = c.skip.ensures.leaves.same.table ∙ c.change_for-taken.ensures.same;
           wires = c.skip.ensures.leaves.same.wires;
           own = c.skip.ensures.leaves.same.own;
         };
+        handed = c.skip.ensures.leaves.handed;
         room = c.skip.ensures.leaves.room;
       };
       acts = c.skip.ensures.acts;
@@ -108,7 +110,7 @@ returns-in-Err-Memory-clause-asks c =
           stays = record {
             journal = refl;
             state = refl;
-            view = subst (λ (f : FindFault). Refuses s c.args.resources.now.table.now.terms.lends (home_cell s.around) c.args.wish.node.0 f old.holder.view c.change_for-taken.new.holder.view) c.in-Err-Memory.field-0-is c.in-Err-Memory.ensures.refused;
+            view = subst (λ (f : FindFault). Refuses s c.args.resources.now.table.now.terms.lends (home_cell s.around) (c.args.wish.node ∷ []) f old.holder.view c.change_for-taken.new.holder.view) c.in-Err-Memory.field-0-is c.in-Err-Memory.ensures.refused;
           };
           passes = refl;
         };
@@ -118,7 +120,8 @@ returns-in-Err-Memory-clause-asks c =
           seat = sym (append-nil old.seat.notes) ∙ ap (λ (l : List Note). old.seat.notes ++ map (sided token.number) l) (sym none);
           token_is = ap (λ (l : List SidedNote). record token { notes = l }) (sym (append-nil token.notes) ∙ ap (λ (l : List Note). token.notes ++ map (sided old.number.0) l) (sym none));
         };
-        same = record { number = refl; start = refl; board = refl; table = c.change_for-taken.ensures.same; wires = refl; own = refl };
+        same = record { number = refl; start = refl; disk = refl; board = refl; table = c.change_for-taken.ensures.same; wires = refl; own = refl };
+        handed = refl;
         room = omega arith;
       };
       acts = λ is. tt;
@@ -202,7 +205,8 @@ returns-clause-asks c =
           seat = ap (λ (x : Seat). x.notes) c.note_ask.ensures.seat ∙ ap (λ (l : List Note). old.seat.notes ++ map (sided token.number) l) told;
           token_is = c.note_ask.ensures.token ∙ ap (λ (l : List Note). record token { notes = token.notes ++ map (sided old.seat.number) l }) told ∙ ap (λ (j : ℕ). record token { notes = token.notes ++ map (sided j) (told_by by (wanting wish) (Ok Begun)) }) c.requires.kept.seat;
         };
-        same = record { number = refl; start = refl; board = ap (λ (x : Seat). x.board) c.note_ask.ensures.seat; table = c.change_for-taken.ensures.same; wires = refl; own = refl };
+        same = record { number = refl; start = refl; disk = refl; board = ap (λ (x : Seat). x.board) c.note_ask.ensures.seat; table = c.change_for-taken.ensures.same; wires = refl; own = refl };
+        handed = handed-same old.course c.begin.new.self e.packets.hand;
         room = less-room _ _ _ _ _ _ (omega (arith, loads, opens, c.push.ensures.room))
             (calls-less old.course c.begin.new.self (no-less _ _ e.print_room) (no-less _ _ e.send_room) (no-less _ _ (rw e.cells refl)) (no-less _ _ (rw e.packets.received refl)) (omega (arith, e.room)) (no-less _ _ (rw e.skips refl)));
       };

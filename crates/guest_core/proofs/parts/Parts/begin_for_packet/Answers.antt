@@ -1,5 +1,5 @@
 -- The move begins that the page needs before the packet in hand comes into it, and the guest is kept.
-use Rattle.std.proofs.Common.{List, [], ◌∷◌, ◌++◌, refl, sym, ap, ◌∙◌, subst, arith}
+use Rattle.std.proofs.Common.{◌≡◌, List, [], ◌∷◌, ◌++◌, refl, sym, ap, ◌∙◌, subst, arith}
 use Rattle.base_words.specs.declared.events.Event.{Event}
 use Rattle.base_words.specs.declared.events.Event.TheVariants.{Begin}
 use Rattle.base_words.specs.declared.ids.NodeId.{NodeId}
@@ -11,11 +11,11 @@ use Rattle.guest_core.specs.Wiring.{Posted}
 use Rattle.guest_core.proofs.ActLemmas.{acts-opened}
 use Rattle.guest_core.proofs.AskLemmas.{kept-packet, quiet-begin}
 use Rattle.guest_core.proofs.GainLemmas.{inside-need, exchanged-inside}
-use Rattle.guest_core.proofs.OpenCounts.{calls-less, no-less, open-more}
+use Rattle.guest_core.proofs.OpenCounts.{open-more}
 use Rattle.guest_core.proofs.EnterProofs.{of-these}
 use Rattle.guest_core.proofs.HoldingLemmas.{frames-stay}
-use Rattle.guest_core.proofs.KeptProofs.{as-many}
-use Rattle.guest_core.proofs.RoomLemmas.{two-entries, less-room}
+use Rattle.guest_core.proofs.KeptProofs.{as-many, begin-due}
+use Rattle.guest_core.proofs.RoomLemmas.{UsesCall, no-more, room-used, two-entries}
 use Rattle.guest_core.proofs.UsingProofs.{uses-row}
 use Rattle.guest_core.proofs.WiringProofs.{posted-same, quiet-one}
 use Rattle.guest_core.proofs.parts.Parts.begin_for_packet.Goals as goal
@@ -39,7 +39,8 @@ returns-clause-kept c =
     let loads = as-many w s t entry row (λ r. refl) in
     let opens = open-more s t q.0 kind s.around.home Packet row in
     let room = two-entries _ _ _ c.requires.room in
-    let journal = c.push.ensures.entries ∙ ap (λ (x : Surroundings). old.journal.entries ++ Begin q kind (record { 0 = x.home }) Packet ∷ []) around in
+    let begins : c.begin_entry.result ≡ entry = c.begin_entry.ensures ∙ ap (λ (x : Surroundings). Begin q kind (record { 0 = x.home }) Packet) around in
+    let journal = c.push.ensures.entries ∙ ap (λ (x : Event). old.journal.entries ++ x ∷ []) begins in
     record {
       sound = e.sound;
       seat = k.seat;
@@ -56,18 +57,24 @@ returns-clause-kept c =
           (ap (λ (x : GuestState). x.devices.sent) row.after) (ap (λ (x : GuestState). x.sent_from) row.after) around (quiet-one s entry refl (λ x. tt)));
     }
 
-pub returns-clause-room : goal.returns-clause-room
-returns-clause-room c =
+pub returns-clause-leaves : goal.returns-clause-leaves
+returns-clause-leaves c =
     let old = c.args.self.now in
     let s = state_of old.course in
     let t = state_of c.begin_for_packet.new.self in
     let e = c.begin_for_packet.ensures in
-    let loads = as-many c.laws.ensures.rows s t (Begin c.args.page c.args.kind (record { 0 = s.around.home }) Packet) e.begins (λ r. refl) in
-    let opens = open-more s t c.args.page.0 c.args.kind s.around.home Packet e.begins in
-    less-room _ _ _ _ _ _ (omega (arith, loads, opens, c.push.ensures.room))
-    (calls-less old.course c.begin_for_packet.new.self (no-less _ _ e.print_room) (no-less _ _ e.send_room) (no-less _ _ (rw e.cells refl)) (no-less _ _ (rw e.packets.received refl)) e.room (no-less _ _ (rw e.skips refl)))
-
-pub returns-clause-acts : goal.returns-clause-acts
-returns-clause-acts c =
-    let s = state_of c.args.self.now.course in
-    acts-opened s (state_of c.begin_for_packet.new.self) c.args.page.0 c.args.kind s.around.home Packet c.begin_for_packet.ensures.begins
+    let uses : UsesCall old.course c.begin_for_packet.new.self = record {
+      print_room = omega (arith, e.print_room);
+      send_room = omega (arith, e.send_room);
+      cells = no-more _ _ e.cells;
+      received = no-more _ _ e.packets.received;
+      begins = e.room;
+      skips = no-more _ _ e.skips;
+    } in
+    record {
+      notes = refl;
+      passes = refl;
+      acts = acts-opened s t c.args.page.0 c.args.kind s.around.home Packet e.begins;
+      same = record { number = refl; start = refl; disk = refl; board = refl; table = refl; wires = refl; own = refl };
+      room = room-used _ _ old.course c.begin_for_packet.new.self uses (omega (arith, begin-due c.laws.ensures.rows c.laws.ensures.moves s t c.args.page c.args.kind (record { 0 = s.around.home }) Packet e.begins, c.push.ensures.room));
+    }

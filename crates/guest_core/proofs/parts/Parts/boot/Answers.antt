@@ -14,7 +14,7 @@ use Rattle.guest_core.specs.Holding.{IsHolding, frames_around}
 use Rattle.guest_core.specs.Kept.{Kept}
 use Rattle.guest_core.specs.Starting.{booted_with}
 use Rattle.guest_core.proofs.BootLemmas.{same-boot, may-boot, is-boot, nothing-due, kept-start}
-use Rattle.guest_core.proofs.EnterProofs.{of-these}
+use Rattle.guest_core.proofs.EnterProofs.{none-handed, of-these}
 use Rattle.guest_core.proofs.HoldingLemmas.{holding-start}
 use Rattle.wire_queue.specs.Between.{Made}
 use Rattle.wire_queue.specs.declared.lists.PassList.{PassList}
@@ -91,4 +91,6 @@ returns-clause-start c = record {
   no_notes = c.requires.no_notes;
   wires_are = c.of.ensures.wires;
   passes_are = c.of.ensures.passes;
+  disk_is = refl;
+  none_handed = none-handed c.in_ok-boot.field-0 (ap (λ (s : GuestState). s.hand) (state-is c));
 }

@@ -12,7 +12,7 @@ use Rattle.guest_core.specs.GuestCalls.{processor_of}
 use Rattle.guest_core.specs.Wiring.{Posted}
 use Rattle.guest_core.proofs.HoldingLemmas.{frames-stay}
 use Rattle.guest_core.proofs.KeptProofs.{direct-due}
-use Rattle.guest_core.proofs.EnterProofs.{kept-direct, of-these, one-row}
+use Rattle.guest_core.proofs.EnterProofs.{handed-same, kept-direct, of-these, one-row}
 use Rattle.guest_core.proofs.RoomLemmas.{two-entries, KeepsCalls, as-used, room-used}
 use Rattle.guest_core.proofs.UsingProofs.{uses-row}
 use Rattle.guest_core.proofs.WiringProofs.{posted-same, quiet-one}
@@ -75,7 +75,8 @@ returns-in-Direct-clause-leaves g c =
         seat = ap (λ (x : Seat). x.notes) c.note.ensures.seat ∙ ap (λ (p : ProcId). old.seat.notes ++ sided token.number (Made (Direct p v)) ∷ []) same;
         token_is = c.note.ensures.token ∙ ap (λ (p : ProcId). record token { notes = token.notes ++ sided old.seat.number (Made (Direct p v)) ∷ [] }) same ∙ ap (λ (n : ℕ). record token { notes = token.notes ++ sided n (Made (Direct (processor_of token) v)) ∷ [] }) c.requires.kept.seat;
       };
-      same = record { number = refl; start = refl; board = ap (λ (x : Seat). x.board) c.note.ensures.seat; table = refl; wires = refl; own = refl };
+      same = record { number = refl; start = refl; disk = refl; board = ap (λ (x : Seat). x.board) c.note.ensures.seat; table = refl; wires = refl; own = refl };
+      handed = handed-same old.course c.step.new.self done.packets.hand;
       room = room-used _ _ old.course c.step.new.self (as-used old.course c.step.new.self keeps) (omega (arith, due, c.push_direct.ensures.room));
     }
 

@@ -9,7 +9,7 @@ use Rattle.guest_course.specs.declared.course.Course.{Course}
 use Rattle.guest_core.specs.GuestView.{entries_due}
 use Rattle.guest_core.specs.Wiring.{IsWired}
 use Rattle.guest_core.proofs.ActLemmas.{acts-hand}
-use Rattle.guest_core.proofs.HandProofs.{kept-comes, goes-comes, frames-come, wired-again}
+use Rattle.guest_core.proofs.HandProofs.{fits-hand, kept-comes, goes-comes, frames-come, wired-again}
 use Rattle.guest_core.proofs.UsingProofs.{uses-come}
 use Rattle.guest_core.proofs.WiringProofs.{posted-comes}
 use Rattle.guest_core.proofs.parts.Parts.fetch.Goals as goal
@@ -44,3 +44,12 @@ returns-in-Some-clause-kept g c =
 
 pub returns-in-Some-clause-acts : goal.returns-in-Some-clause-acts
 returns-in-Some-clause-acts g c = acts-hand (state_of c.args.self.now.course) (state_of c.take_in_hand.new.self) c.take_in_hand.ensures.comes
+
+pub take_in_hand-requires-clause-fits : goal.take_in_hand-requires-clause-fits
+take_in_hand-requires-clause-fits g c =
+    let old = c.args.self.now in
+    let s = state_of old.course in
+    let k = c.requires.kept in
+    let wires = old.wiring.wires.value in
+    let here : IsWired wires old.wiring.passes s.around = subst (λ (x : Surroundings). IsWired wires old.wiring.passes x) (sym k.kept.around) k.wired in
+    fits-hand wires s.around old.wiring.passes c.next.new.self.passes c.in-Some.packet here old.course.around.site.shape.has_frames c.in-Some.ensures.taken

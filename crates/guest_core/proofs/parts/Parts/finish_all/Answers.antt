@@ -24,12 +24,14 @@ loop-number-preserved c =
       record {
         number = e.same.number ∙ so-far.3.number;
         start = e.same.start ∙ so-far.3.start;
+        disk = e.same.disk ∙ so-far.3.disk;
         board = e.same.board ∙ so-far.3.board;
         table = e.same.table ∙ so-far.3.table;
         wires = e.same.wires ∙ so-far.3.wires;
         own = e.same.own ∙ so-far.3.own;
       },
       at-most _ _ _ so-far.4 e.room,
+      e.handed ∙ so-far.5,
     )
 
 pub returns-clause-none : goal.returns-clause-none

@@ -12,3 +12,4 @@ invariant-loop-number l =
     × (l.self.seat ≡ l.initial.self.seat)
     × IsSameGuest (guest_of l.initial.self) (guest_of l.self)
     × ((guest_of l.initial.self).room ≤ (guest_of l.self).room)
+    × ((guest_of l.self).handed ≡ (guest_of l.initial.self).handed)

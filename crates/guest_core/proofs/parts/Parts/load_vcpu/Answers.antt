@@ -10,7 +10,7 @@ use Rattle.guest_course.specs.CourseView.{state_of}
 use Rattle.guest_core.specs.Kept.{Kept}
 use Rattle.guest_core.proofs.HoldingLemmas.{frames-stay}
 use Rattle.guest_core.proofs.KeptProofs.{kept-one, kept-answer, load-due}
-use Rattle.guest_core.proofs.EnterProofs.{noted-kept}
+use Rattle.guest_core.proofs.EnterProofs.{handed-same, noted-kept}
 use Rattle.guest_core.proofs.RoomLemmas.{two-entries, KeepsCalls, as-used, room-used}
 use Rattle.guest_core.specs.Wiring.{Posted}
 use Rattle.guest_core.proofs.WiringProofs.{posted-same, quiet-one, quiet-load}
@@ -68,6 +68,7 @@ returns-clause-leaves c =
     let keeps : KeepsCalls before after = record { print_room = done.print_room; send_room = done.send_room; cells = done.cells; received = done.packets.received; begins = omega (arith, done.room); skips = done.skips } in
     record {
       learns = record { seat = search rules; token_is = search rules };
-      same = record { number = refl; start = refl; board = ap (λ (x : Seat). x.board) c.note-2.ensures.seat; table = refl; wires = refl; own = refl };
+      same = record { number = refl; start = refl; disk = refl; board = ap (λ (x : Seat). x.board) c.note-2.ensures.seat; table = refl; wires = refl; own = refl };
+      handed = handed-same before after done.packets.hand;
       room = room-used _ _ before after (as-used before after keeps) (omega (arith, due, c.push.ensures.room));
     }

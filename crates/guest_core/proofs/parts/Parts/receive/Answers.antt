@@ -8,10 +8,10 @@ use Rattle.guest_course.specs.CourseView.{state_of}
 use Rattle.guest_core.specs.Kept.{Kept}
 use Rattle.guest_core.specs.Wiring.{Posted}
 use Rattle.guest_core.proofs.ActLemmas.{acts-received}
-use Rattle.guest_core.proofs.OpenCounts.{calls-less, no-less, open-received}
+use Rattle.guest_core.proofs.OpenCounts.{open-received}
 use Rattle.guest_core.proofs.HoldingLemmas.{frames-stay}
-use Rattle.guest_core.proofs.KeptProofs.{kept-none, as-many}
-use Rattle.guest_core.proofs.RoomLemmas.{two-entries, less-room}
+use Rattle.guest_core.proofs.KeptProofs.{kept-none, as-many, receive-due}
+use Rattle.guest_core.proofs.RoomLemmas.{UsesCall, no-more, room-used, two-entries}
 use Rattle.guest_core.proofs.UsingProofs.{uses-row}
 use Rattle.guest_core.proofs.WiringProofs.{posted-received}
 use Rattle.guest_core.proofs.parts.Parts.receive.Goals as goal
@@ -47,17 +47,25 @@ returns-clause-kept c =
       posted = subst (λ (j : List Event). Posted t j old.wiring.passes) (sym entries) (posted-received v s t old.journal.entries place old.wiring.passes k.posted row);
     }
 
-pub returns-clause-room : goal.returns-clause-room
-returns-clause-room c =
+pub returns-clause-leaves : goal.returns-clause-leaves
+returns-clause-leaves c =
     let old = c.args.self.now in
     let s = state_of old.course in
     let t = state_of c.receive.new.self in
     let e = c.in_ok-receive.ensures in
     let place = length old.course.received.items in
-    let loads = as-many c.laws.ensures.rows s t (PacketIn place) (inl e.receives) (λ r. refl) in
-    let opens = open-received s t place e.receives in
-    less-room _ _ _ _ _ _ (omega (arith, loads, opens, c.push.ensures.room))
-    (calls-less old.course c.receive.new.self (no-less _ _ e.print_room) (no-less _ _ e.send_room) (no-less _ _ (rw e.cells refl)) e.place_room (no-less _ _ e.room) (no-less _ _ (rw e.skips refl)))
-
-pub returns-clause-acts : goal.returns-clause-acts
-returns-clause-acts c = acts-received (state_of c.args.self.now.course) (state_of c.receive.new.self) (length c.args.self.now.course.received.items) c.in_ok-receive.ensures.receives
+    let uses : UsesCall old.course c.receive.new.self = record {
+      print_room = omega (arith, e.print_room);
+      send_room = omega (arith, e.send_room);
+      cells = no-more _ _ e.cells;
+      received = e.place_room;
+      begins = omega (arith, e.room);
+      skips = no-more _ _ e.skips;
+    } in
+    record {
+      notes = refl;
+      passes = refl;
+      acts = acts-received s t place e.receives;
+      same = record { number = refl; start = refl; disk = refl; board = refl; table = refl; wires = refl; own = refl };
+      room = room-used _ _ old.course c.receive.new.self uses (omega (arith, receive-due c.laws.ensures.rows c.laws.ensures.moves s t place e.receives, c.push.ensures.room));
+    }

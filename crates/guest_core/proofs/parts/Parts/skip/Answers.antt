@@ -22,7 +22,7 @@ use Rattle.guest_core.specs.GuestView.{open_count}
 use Rattle.guest_core.specs.Wiring.{Posted}
 use Rattle.guest_core.proofs.AskLemmas.{asks-skip, is-asker, told-sided, kept-skip, skips-added, goes-on-skipped, quiet-skip}
 use Rattle.guest_core.proofs.OpenCounts.{calls-less, no-less}
-use Rattle.guest_core.proofs.EnterProofs.{of-these, one-row}
+use Rattle.guest_core.proofs.EnterProofs.{handed-same, of-these, one-row}
 use Rattle.guest_core.proofs.HoldingLemmas.{frames-stay}
 use Rattle.guest_core.proofs.KeptProofs.{as-many}
 use Rattle.guest_core.proofs.RoomLemmas.{two-entries, less-room}
@@ -122,7 +122,8 @@ returns-clause-leaves c =
         seat = ap (λ (x : Seat). x.notes) c.note_ask.ensures.seat;
         token_is = c.note_ask.ensures.token ∙ ap (λ (j : ℕ). record token { notes = token.notes ++ map (sided j) (told_by c.args.by (wanting c.args.wish) (Ok Skipped)) }) c.requires.kept.seat;
       };
-      same = record { number = refl; start = refl; board = ap (λ (x : Seat). x.board) c.note_ask.ensures.seat; table = refl; wires = refl; own = refl };
+      same = record { number = refl; start = refl; disk = refl; board = ap (λ (x : Seat). x.board) c.note_ask.ensures.seat; table = refl; wires = refl; own = refl };
+      handed = handed-same old.course c.skip.new.self e.packets.hand;
       room = less-room _ _ _ _ _ _ (omega (arith, loads, open-same, c.push.ensures.room))
           (calls-less old.course c.skip.new.self (no-less _ _ e.print_room) (no-less _ _ e.send_room) (no-less _ _ (rw e.cells refl)) (no-less _ _ (rw e.packets.received refl)) (no-less _ _ (ap (λ (m : PageMap). m.room) e.pages)) e.place_room);
     }

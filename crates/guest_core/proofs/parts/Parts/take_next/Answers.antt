@@ -1,7 +1,12 @@
 -- A packet comes to hand, and then what is in hand is taken in.
-use Rattle.std.proofs.Common.{◌≡◌, ◌≢◌, true, false, Option, Some, None, is_some, option_map}
+use Rattle.std.proofs.Common.{◌≡◌, ◌≢◌, ⊎_elim, true, false, Option, Some, None, is_some, option_map, refl, sym, ap, ◌∙◌}
+use Rattle.private_machine.specs.Operation.{Packet}
+use Rattle.isolation_law.specs.GuestState.{GuestState}
+use Rattle.isolation_law.specs.PacketRows.{ComesToHand}
+use Rattle.isolation_law.specs.Run.{Silent}
 use Rattle.wire_queue.specs.declared.packet.WirePacket.{WirePacket}
-use Rattle.guest_course.specs.CourseView.{hand_of}
+use Rattle.guest_course.specs.CourseView.{hand_of, state_of}
+use Rattle.guest_core.proofs.EnterProofs.{none-handed}
 use Rattle.guest_core.specs.GuestView.{guest_of}
 use Rattle.guest_core.proofs.PacketLemmas.{then-takes}
 use Rattle.guest_core.proofs.parts.Parts.take_next.Goals as goal
@@ -19,7 +24,38 @@ is-in-hand (Some packet) some = none
 
 pub returns-clause-takes : goal.returns-clause-takes
 returns-clause-takes g c =
-    then-takes (guest_of c.args.self.now) (guest_of c.fetch.new.self) (guest_of c.take_in.new.self) c.take_in.result c.requires.armed c.fetch.ensures.fetches (is-in-hand c.fetch.new.self.course.hand c.if-is_none.ensures) c.take_in.ensures.takes
+    then-takes (guest_of c.args.self.now) (guest_of c.fetch.new.self) (guest_of c.take_in.new.self) c.take_in.result c.requires.armed c.fetch.ensures.fetches (is-in-hand c.fetch.new.self.course.hand c.if-is_none.ensures) c.take_in.ensures.leaves.passes c.take_in.ensures.takes
 
 pub returns-clause-acts : goal.returns-clause-acts
-returns-clause-acts g c = λ p may. c.take_in.ensures.acts p (c.fetch.ensures.acts p may)
+returns-clause-acts g c = λ p may. c.take_in.ensures.leaves.acts p (c.fetch.ensures.acts p may)
+
+-- nothing comes to hand where nothing is in hand afterwards
+nothing : (s m : GuestState) → m.hand ≡ None → Silent s m → m ≡ s
+nothing s m none silent = ⊎_elim (λ (e : m ≡ s). e) (λ (x : ComesToHand s m). absurd (no x.packet (sym (ap (λ (y : GuestState). y.hand) x.after) ∙ none))) silent
+  where
+    no : (packet : Packet) → Some packet ≡ None → ⊥
+    no packet e = cc
+
+none-in-hand : (hand : Option WirePacket) → is_some hand ≡ false → option_map hand_of hand ≡ None
+none-in-hand None e = refl
+none-in-hand (Some packet) e = absurd (no e)
+  where
+    no : true ≡ false → ⊥
+    no e = cc
+
+pub returns-then-is_none-clause-takes : goal.returns-then-is_none-clause-takes
+returns-then-is_none-clause-takes g c =
+    let old = c.args.self.now in
+    let new = c.fetch.new.self in
+    let f = c.fetch.ensures.fetches in
+    let empty = none-in-hand new.course.hand c.if-is_none.ensures in
+    let same = nothing (state_of old.course) (state_of new.course) empty f.silent in
+    let none = sym (ap (λ (s : GuestState). s.hand) same) ∙ empty in
+    record {
+      armed = c.requires.armed;
+      none = none;
+      asked = f.asked none empty;
+      stays = record { journal = f.journal; state = same; view = f.quiet.view };
+      handed = none-handed new.course empty ∙ sym (none-handed old.course none);
+      notes = f.quiet.notes;
+    }

@@ -1,104 +1,89 @@
 -- The entry that is made for a trap is its row, and the guest is kept.
-use Rattle.std.proofs.Common.{◌≡◌, inl, ℕ, ◌<◌, ◌++◌, [], ◌∷◌, List, length, Option, None, option_map, Ok, refl, sym, ap, ◌∙◌, subst, arith}
-use Rattle.base_words.specs.Membership.{HasNone}
-use Rattle.base_words.specs.declared.events.Event.TheVariants.{Refill, Emulate, Begin}
-use Rattle.base_words.specs.declared.ids.NodeId.{NodeId}
-use Rattle.base_words.specs.declared.ids.Ppn.{Ppn}
-use Rattle.base_words.specs.declared.ids.ProcId.{ProcId}
-use Rattle.base_words.specs.declared.moves.By.TheVariants.{Step}
-use Rattle.base_words.specs.declared.moves.MoveKind.{MoveKind}
+use Rattle.std.proofs.Common.{◌≡◌, inl, inr, ℕ, ◌+◌, ◌<◌, ◌≤◌, ◌++◌, [], ◌∷◌, if◌then◌else◌, Bool, true, false, List, Ok, Some, None, length, map, refl, sym, ap, ◌∙◌, subst, arith}
+use Rattle.std.specs.Global.{Vec}
+use Rattle.base_words.specs.declared.ids.CellId.{CellId}
 use Rattle.base_words.specs.declared.events.Event.{Event}
+use Rattle.base_words.specs.declared.events.Event.TheVariants.{Refill, Emulate}
+use Rattle.base_words.specs.declared.ids.ProcId.{ProcId}
+use Rattle.base_words.specs.declared.moves.MoveKind.{MoveKind}
+use Rattle.base_words.specs.declared.moves.MoveKind.TheVariants.{Break, Collapse}
+use Rattle.private_machine.specs.Backing.{Page}
+use Rattle.private_machine.specs.DeviceAct.{StoresTo}
+use Rattle.shootdown.specs.declared.notes.Note.{Note}
 use Rattle.shootdown.specs.declared.notes.Note.TheVariants.{Made}
+use Rattle.shootdown.specs.declared.view.SidedNote.{SidedNote}
 use Rattle.shootdown.specs.Notes.{Seat, Token, sided}
-use Rattle.private_machine.specs.Backing.{Copy}
-use Rattle.pmap_table.specs.OpenMoves.{told}
-use Rattle.isolation_law.specs.Exchange.{Exchanged}
 use Rattle.isolation_law.specs.GuestState.{GuestState, page}
-use Rattle.isolation_law.specs.Phases.{all_halted}
+use Rattle.base_words.specs.declared.events.End.TheVariants.{Halted as ByHalt}
+use Rattle.isolation_law.specs.Phases.{all_halted, GoesOn}
 use Rattle.isolation_law.specs.RefillRow.{Refills}
 use Rattle.isolation_law.specs.StepRows.{Emulates}
 use Rattle.isolation_law.specs.Surroundings.{Surroundings}
-use Rattle.wire_queue.specs.Between.{Made as Wires}
-use Rattle.wire_queue.specs.PassLists.{IsListOf}
+use Rattle.guest_course.specs.Acting.{page_used}
 use Rattle.guest_course.specs.CourseView.{state_of}
-use Rattle.guest_course.specs.declared.posting.Outgoing.{Outgoing}
-use Rattle.guest_core.specs.GuestCalls.{processor_of, step_entries}
-use Rattle.guest_core.specs.GuestView.{guest_of}
+use Rattle.guest_course.specs.RefillCalls.{StaysNeeding}
+use Rattle.guest_course.specs.declared.course.Course.{Course}
+use Rattle.isolation_law.specs.StepAct.{at_hand}
+use Rattle.guest_core.specs.MoveCalls.{MeetsPage}
+use Rattle.guest_core.specs.GuestCalls.{end_of, processor_of, step_entries, told_of_turn, Leaves, TurnAnswers}
+use Rattle.guest_core.specs.GuestView.{entries_due, guest_of, shared_by}
 use Rattle.guest_core.specs.Holding.{FitsAround}
-use Rattle.guest_core.specs.TurnParts.{Serves, MakesStep, BeginsFor, StaysOn, GoesOnThen, Posts, out_of}
-use Rattle.guest_core.specs.declared.serving.Served.{Served}
-use Rattle.guest_core.specs.declared.serving.Served.TheVariants as serves
-use Rattle.guest_core.specs.Wiring.{IsWired, Posted}
+use Rattle.guest_core.specs.Making.{Makes}
+use Rattle.guest_core.specs.TurnParts.{BeginsFor, Concludes, Quietly}
+use Rattle.guest_core.specs.Wiring.{Posted}
+use Rattle.guest_core.proofs.ActingLemmas.{begun-store}
+use Rattle.guest_core.proofs.EnterProofs.{concluded, handed-same, kept-refill, kept-step, learns-none, of-these, one-row, quiet-leaves, step-run, uses-none}
 use Rattle.guest_core.proofs.HoldingLemmas.{frames-stay}
-use Rattle.guest_core.proofs.EnterProofs.{kept-refill, kept-emulate, of-these, goes-on, concluded-due, one-row, emulate-turn, learns-none}
-use Rattle.guest_core.specs.Laws.{RowLaws}
-use Rattle.guest_core.proofs.KeptProofs.{kept-none, begin-due, refill-due, emulate-due, emulate-end}
-use Rattle.guest_core.proofs.MoveLemmas.{gains-none, kept-made, posted-begin, told-move}
-use Rattle.guest_core.proofs.RoomLemmas.{two-entries, UsesCall, turn-uses, room-used}
-use Rattle.guest_core.proofs.HandProofs.{wired-again}
+use Rattle.guest_core.proofs.KeptProofs.{emulate-due, emulate-end, refill-due}
+use Rattle.guest_core.proofs.LettingLemmas.{letting-open, quiet-step}
+use Rattle.guest_core.proofs.MoveLemmas.{needs-kind}
+use Rattle.guest_core.proofs.RoomLemmas.{UsesCall, KeepsCalls, as-used, no-more, room-used, two-entries}
 use Rattle.guest_core.proofs.UsingProofs.{uses-row}
-use Rattle.guest_core.proofs.WiringProofs.{posted-out, quiet-one, quiet-step, posts-concluded, sent-guest, same-ends, fits-out, there-out}
+use Rattle.guest_core.proofs.WiringProofs.{packets-then, posted-same, posts-none, quiet-one, same-ends, takes-none}
 use Rattle.guest_core.proofs.parts.Parts.trapped.Goals as goal
 
--- which row the entry is, on the token's processor
-refilled : {s m : GuestState} {n q : ℕ} {answer : Served} (v : ℕ) → n ≡ q → answer ≡ serves.Refill → Serves s n v m (Ok answer) → Refills s q m
-refilled {s} {m} {n} {q} v at is row = subst (λ (p : ℕ). Refills s p m) at (subst (λ (a : Served). Serves s n v m (Ok a)) is row)
-
-made : {s m : GuestState} {n q v : ℕ} {answer : Served} {out : Option Outgoing} → n ≡ q → answer ≡ serves.Emulate out → Serves s n v m (Ok answer) → MakesStep s q v m
-made {s} {m} {n} {q} {v} at is row = subst (λ (p : ℕ). MakesStep s p v m) at (subst (λ (a : Served). Serves s n v m (Ok a)) is row)
-
-begun : {s m : GuestState} {n q v : ℕ} {answer : Served} {page : Ppn} {kind : MoveKind} → n ≡ q → answer ≡ serves.Begin page kind → Serves s n v m (Ok answer) → BeginsFor s q v page.0 kind m
-begun {s} {m} {n} {q} {v} {answer} {page} {kind} at is row = subst (λ (p : ℕ). BeginsFor s p v page.0 kind m) at (subst (λ (a : Served). Serves s n v m (Ok a)) is row)
-
-waiting : {s m : GuestState} {n q v : ℕ} {answer : Served} {page : Ppn} → n ≡ q → answer ≡ serves.Wait page → Serves s n v m (Ok answer) → StaysOn s q v page.0 m
-waiting {s} {m} {n} {q} {v} {answer} {page} at is row = subst (λ (p : ℕ). StaysOn s p v page.0 m) at (subst (λ (a : Served). Serves s n v m (Ok a)) is row)
+-- ---- a half was given
 
 pub returns-in-Refill-clause-kept : goal.returns-in-Refill-clause-kept
 returns-in-Refill-clause-kept g c =
     let old = c.args.self.now in
-    let token : Token = c.args.token.now in
+    let d = c.serve.new.self in
     let s = state_of old.course in
-    let m = state_of c.serve.new.course in
+    let m = state_of d in
     let k = c.requires.kept in
-    let q : ProcId = processor_of token in
-    let v = c.args.vcpu in
+    let q : ProcId = processor_of c.args.token.now in
     let same : c.number-processor.result ≡ q = ap (λ (n : ℕ). record { 0 = n }) c.number-processor.ensures in
     let w = c.laws.ensures.rows in
-    let there : q.0 < length s.processors = subst (λ (n : ℕ). q.0 < n) (sym k.kept.processors) c.requires.may.notes.is_processor in
-    let did : Refills s q.0 m = refilled v.0 c.number-processor.ensures c.in-Refill.is c.in_ok-serve.ensures.serves in
+    let e = c.in-Refill.ensures in
+    let did : Refills s q.0 m = subst (λ (n : ℕ). Refills s n m) c.number-processor.ensures e.enters in
     let kept = kept-refill w c.laws.ensures.runs old.start s m old.journal.entries old.seat.notes q k.kept did in
-    let due = refill-due w c.laws.ensures.moves s m q did in
+    let journal = c.push.ensures.entries ∙ ap (λ (p : ProcId). old.journal.entries ++ Refill p ∷ []) same in
+    let around = w.around s m (Refill q) did in
     let room = two-entries _ _ _ c.requires.room in
-    let v' = c.laws.ensures.takes in
-    let u' = c.laws.ensures.sends in
-    let here : IsWired old.wiring.wires.value old.wiring.passes s.around = subst (λ (x : Surroundings). IsWired old.wiring.wires.value old.wiring.passes x) (sym k.kept.around) k.wired in
     record {
-      sound = c.serve.ensures.sound;
+      sound = e.sound;
       seat = k.seat;
       booted = k.booted;
-      kept = of-these old.start m _ _ _ _ (c.push.ensures.entries ∙ ap (λ (p : ProcId). old.journal.entries ++ Refill p ∷ []) same) refl kept;
-      goes_on = λ on. subst (λ a. GoesOnThen m (Ok a)) c.in-Refill.is c.in_ok-serve.ensures.goes_on;
-      frames = frames-stay s m _ (c.exchanges.ensures.refills s m q.0 did) (w.around s m (Refill q) did) (ap (λ (x : GuestState). x.end) did.after) k.frames;
+      kept = of-these old.start m _ _ _ _ journal refl kept;
+      goes_on = λ on. e.goes_on;
+      frames = frames-stay s m _ (c.exchanges.ensures.refills s m q.0 did) around (ap (λ (x : GuestState). x.end) did.after) k.frames;
       used = uses-row w s m (Refill q) old.uses did (c.exchanges.ensures.refills s m q.0 did) (λ r. refl) k.used;
       at_home = k.at_home;
-      owed = omega (arith, due, room, c.push.ensures.room);
+      owed = omega (arith, refill-due w c.laws.ensures.moves s m q did, room, c.push.ensures.room);
       few_guests = k.few_guests;
       wired = k.wired;
-      posted = subst (λ (j : List Event). Posted m j old.wiring.passes) (sym (c.push.ensures.entries ∙ ap (λ (p : ProcId). old.journal.entries ++ Refill p ∷ []) same))
-          (posted-out u' v' old.wiring.wires.value s m old.journal.entries (Refill q ∷ []) old.wiring.passes old.wiring.passes None here k.posted
-          (subst (λ a. Posts s (out_of (Ok a)) m) c.in-Refill.is c.in_ok-serve.ensures.posts) (quiet-one s (Refill q) refl (λ x. tt)) (same-ends old.wiring.passes));
+      posted = subst (λ (j : List Event). Posted m j old.wiring.passes) (sym journal)
+          (posted-same c.laws.ensures.takes s m old.journal.entries (Refill q ∷ []) old.wiring.passes k.posted (takes-none old.course d e.packets) e.packets.sent (ap (λ (l : Vec CellId). map (λ (x : CellId). x.0) l.items) e.cells) around (quiet-one s (Refill q) refl (λ x. tt)));
     }
 
 pub returns-in-Refill-clause-turns : goal.returns-in-Refill-clause-turns
 returns-in-Refill-clause-turns g c =
     let old = c.args.self.now in
-    let token : Token = c.args.token.now in
     let s = state_of old.course in
-    let m = state_of c.serve.new.course in
-    let q : ProcId = processor_of token in
-    let v = c.args.vcpu in
+    let m = state_of c.serve.new.self in
+    let q : ProcId = processor_of c.args.token.now in
     let same : c.number-processor.result ≡ q = ap (λ (n : ℕ). record { 0 = n }) c.number-processor.ensures in
-    let did : Refills s q.0 m = refilled v.0 c.number-processor.ensures c.in-Refill.is c.in_ok-serve.ensures.serves in
+    let did : Refills s q.0 m = subst (λ (n : ℕ). Refills s n m) c.number-processor.ensures c.in-Refill.ensures.enters in
     record {
       rest = c.requires.rest;
       makes = record {
@@ -111,260 +96,228 @@ pub returns-in-Refill-clause-leaves : goal.returns-in-Refill-clause-leaves
 returns-in-Refill-clause-leaves g c =
     let old = c.args.self.now in
     let token : Token = c.args.token.now in
+    let d = c.serve.new.self in
     let s = state_of old.course in
-    let m = state_of c.serve.new.course in
-    let did : Refills s token.number m = refilled c.args.vcpu.0 c.number-processor.ensures c.in-Refill.is c.in_ok-serve.ensures.serves in
+    let m = state_of d in
+    let e = c.in-Refill.ensures in
+    let did : Refills s token.number m = subst (λ (n : ℕ). Refills s n m) c.number-processor.ensures e.enters in
     let due = refill-due c.laws.ensures.rows c.laws.ensures.moves s m (processor_of token) did in
+    let uses : UsesCall old.course d = record { print_room = e.print_room; send_room = omega (arith, e.send_room); cells = no-more _ _ e.cells; received = no-more _ _ e.packets.received; begins = omega (arith, e.room); skips = no-more _ _ e.skips } in
     record {
       learns = learns-none (guest_of old) _ token refl;
-      same = record { number = refl; start = refl; board = refl; table = refl; wires = refl; own = refl };
-      room = room-used _ _ old.course c.serve.new.course (turn-uses old.course c.serve.new.course c.serve.ensures.room) (omega (arith, due, c.push.ensures.room));
+      same = record { number = refl; start = refl; disk = refl; board = refl; table = refl; wires = refl; own = refl };
+      handed = handed-same old.course d e.packets.hand;
+      room = room-used _ _ old.course d uses (omega (arith, due, c.push.ensures.room));
     }
 
--- a begin is told with the home node, which stays
-told-begin : RowLaws → (s m : GuestState) (journal entries : List Event) (q : Ppn) (kind : MoveKind) (home : NodeId) (p processor : ProcId) → m.around ≡ s.around → home.0 ≡ m.around.home → processor ≡ p
-    → entries ≡ journal ++ Begin q kind home (Step processor) ∷ [] → entries ≡ journal ++ Begin q kind (record { 0 = s.around.home }) (Step p) ∷ []
-told-begin w s m journal entries q kind home p processor around at same is =
-    let node : home ≡ record { 0 = s.around.home } = ap (λ (n : ℕ). record { 0 = n }) (at ∙ ap (λ (x : Surroundings). x.home) around) in
-    is ∙ (λ i. journal ++ Begin q kind (node i) (Step (same i)) ∷ [])
+-- ---- the step was made
 
-pub returns-in-Begin-clause-kept : goal.returns-in-Begin-clause-kept
-returns-in-Begin-clause-kept g c =
-    let old = c.args.self.now in
-    let token : Token = c.args.token.now in
-    let s = state_of old.course in
-    let m = state_of c.serve.new.course in
-    let k = c.requires.kept in
-    let p : ProcId = processor_of token in
-    let q = c.in-Begin.page in
-    let kind = c.in-Begin.kind in
-    let home : NodeId = record { 0 = s.around.home } in
-    let same : c.number-processor.result ≡ p = ap (λ (n : ℕ). record { 0 = n }) c.number-processor.ensures in
-    let w = c.laws.ensures.rows in
-    let did : BeginsFor s p.0 c.args.vcpu.0 q.0 kind m = begun c.number-processor.ensures c.in-Begin.is c.in_ok-serve.ensures.serves in
-    let e : Event = Begin q kind home (Step p) in
-    let around = w.around s m e did.row in
-    let ex : Exchanged s m [] [] = subst (λ (l : List Copy). Exchanged s m l []) (gains-none did.row.change kind did.row.is_kind did.takes_none) (c.exchanges.ensures.begins s m q.0 kind s.around.home (Step p) did.row) in
-    let due = begin-due w c.laws.ensures.moves s m q kind home (Step p) did.row in
-    let room = two-entries _ _ _ c.requires.room in
-    kept-made old e c.serve.new.course old.holder old.uses c.push-in-Begin.new.self k (record {
-      sound = c.serve.ensures.sound;
-      kept = kept-none w c.laws.ensures.runs old.start s m old.journal.entries old.seat.notes e k.kept did.row refl;
-      goes_on = λ on. subst (λ a. GoesOnThen m (Ok a)) c.in-Begin.is c.in_ok-serve.ensures.goes_on;
-      frames = frames-stay s m _ ex around (ap (λ (x : GuestState). x.end) did.row.after) k.frames;
-      used = uses-row w s m e old.uses did.row ex (λ r. refl) k.used;
-      owed = omega (arith, due, room, c.push-in-Begin.ensures.room);
-      posted = posted-begin w c.laws.ensures.takes s m old.journal.entries old.wiring.passes q kind home (Step p) k.posted did.row;
-      entries = told-begin w s m old.journal.entries _ q kind _ p _ around refl same c.push-in-Begin.ensures.entries;
-    })
-
-pub returns-in-Begin-clause-turns : goal.returns-in-Begin-clause-turns
-returns-in-Begin-clause-turns g c =
-    let old = c.args.self.now in
-    let token : Token = c.args.token.now in
-    let s = state_of old.course in
-    let m = state_of c.serve.new.course in
-    let p : ProcId = processor_of token in
-    let q = c.in-Begin.page in
-    let kind = c.in-Begin.kind in
-    let same : c.number-processor.result ≡ p = ap (λ (n : ℕ). record { 0 = n }) c.number-processor.ensures in
-    let w = c.laws.ensures.rows in
-    let did : BeginsFor s p.0 c.args.vcpu.0 q.0 kind m = begun c.number-processor.ensures c.in-Begin.is c.in_ok-serve.ensures.serves in
-    let e : Event = Begin q kind (record { 0 = s.around.home }) (Step p) in
-    record {
-      rest = c.requires.rest;
-      step = did.step;
-      kind = kind;
-      makes = record {
-        makes = record {
-          journal = told-begin w s m old.journal.entries _ q kind _ p _ (w.around s m e did.row) refl same c.push-in-Begin.ensures.entries;
-          run = one-row s m e did.row;
-        };
-        passes = refl;
-      };
-    }
-
-pub returns-in-Begin-clause-leaves : goal.returns-in-Begin-clause-leaves
-returns-in-Begin-clause-leaves g c =
-    let old = c.args.self.now in
-    let token : Token = c.args.token.now in
-    let s = state_of old.course in
-    let m = state_of c.serve.new.course in
-    let p : ProcId = processor_of token in
-    let q = c.in-Begin.page in
-    let kind = c.in-Begin.kind in
-    let did : BeginsFor s p.0 c.args.vcpu.0 q.0 kind m = begun c.number-processor.ensures c.in-Begin.is c.in_ok-serve.ensures.serves in
-    let due = begin-due c.laws.ensures.rows c.laws.ensures.moves s m q kind (record { 0 = s.around.home }) (Step p) did.row in
-    record {
-      learns = learns-none (guest_of old) _ token refl;
-      same = record { number = refl; start = refl; board = refl; table = refl; wires = refl; own = refl };
-      room = room-used _ _ old.course c.serve.new.course (turn-uses old.course c.serve.new.course c.serve.ensures.room) (omega (arith, due, c.push-in-Begin.ensures.room));
-    }
-
--- somebody is waited for, as no move is ready
-pub returns-in-Some-clause-turns : goal.returns-in-Some-clause-turns
-returns-in-Some-clause-turns g c =
-    let old = c.args.self.now in
-    let s = state_of old.course in
-    let m = state_of c.serve.new.course in
-    let q = c.in-Wait.page in
-    let rest = c.requires.rest in
-    let did : StaysOn s c.args.token.now.number c.args.vcpu.0 q.0 m = waiting c.number-processor.ensures c.in-Wait.is c.in_ok-serve.ensures.serves in
-    let move = told-move (page s q.0).move c.in-Some.open (c.in-Some.ensures ∙ ap (λ (x : GuestState). option_map told (page x q.0).move) did.same) in
-    record {
-      rest = rest;
-      step = did.step;
-      waiting = record {
-        move = move.0;
-        open_move = move.1;
-        waiting_is = move.2;
-        somebody = λ none. c.no_page_is_taken.ensures.waits old.course c.requires.kept.sound c.requires.runs.not_ended rest.finished q.0 move.0 move.1 (subst HasNone (sym move.2) none);
-      };
-      rests = record { stays = record { journal = refl; state = did.same; view = refl }; passes = refl };
-    }
-
--- before the guest may end it has its frames as before
 pub conclude-requires-clause-fits : goal.conclude-requires-clause-fits
 conclude-requires-clause-fits g c =
-    let old = c.args.self.now in
-    let token : Token = c.args.token.now in
-    let s = state_of old.course in
-    let m = state_of c.serve.new.course in
-    let q : ProcId = processor_of token in
-    let v = c.args.vcpu in
-    let did : Emulates s q.0 v.0 m = (made c.number-processor.ensures c.in-Emulate.is c.in_ok-serve.ensures.serves).row in
-    let around = c.laws.ensures.rows.around s m (Emulate q v) (inl did) ∙ c.requires.kept.kept.around in
-    subst (λ (x : Surroundings). FitsAround c.args.resources.now.table.now x) (sym around) c.requires.shared.table.fits
+    let s = state_of c.args.self.now.course in
+    let m = state_of c.serve.new.self in
+    let q : ProcId = processor_of c.args.token.now in
+    let did : Emulates s q.0 c.args.vcpu.0 m = subst (λ (n : ℕ). Emulates s n c.args.vcpu.0 m) c.number-processor.ensures c.in-Emulate.ensures.enters in
+    subst (λ (x : Surroundings). FitsAround c.args.resources.now.table.now x) (sym (c.laws.ensures.rows.around s m (Emulate q c.args.vcpu) (inl did) ∙ c.requires.kept.kept.around)) c.requires.shared.table.fits
+
+pub conclude-requires-clause-at_home : goal.conclude-requires-clause-at_home
+conclude-requires-clause-at_home g c =
+    let s = state_of c.args.self.now.course in
+    let m = state_of c.serve.new.self in
+    let q : ProcId = processor_of c.args.token.now in
+    let did : Emulates s q.0 c.args.vcpu.0 m = subst (λ (n : ℕ). Emulates s n c.args.vcpu.0 m) c.number-processor.ensures c.in-Emulate.ensures.enters in
+    subst (λ (x : Surroundings). x.home < length x.nodes) (sym (c.laws.ensures.rows.around s m (Emulate q c.args.vcpu) (inl did) ∙ c.requires.kept.kept.around)) c.requires.kept.at_home
+
+pub conclude-requires-clause-goes_on : goal.conclude-requires-clause-goes_on
+conclude-requires-clause-goes_on g c =
+    let s = state_of c.args.self.now.course in
+    let m = state_of c.serve.new.self in
+    let q : ProcId = processor_of c.args.token.now in
+    let did : Emulates s q.0 c.args.vcpu.0 m = subst (λ (n : ℕ). Emulates s n c.args.vcpu.0 m) c.number-processor.ensures c.in-Emulate.ensures.enters in
+    emulate-end s m q.0 c.args.vcpu.0 did
 
 pub conclude-requires-clause-frames : goal.conclude-requires-clause-frames
 conclude-requires-clause-frames g c =
-    let old = c.args.self.now in
-    let token : Token = c.args.token.now in
-    let s = state_of old.course in
-    let m = state_of c.serve.new.course in
-    let q : ProcId = processor_of token in
+    let s = state_of c.args.self.now.course in
+    let m = state_of c.serve.new.self in
+    let q : ProcId = processor_of c.args.token.now in
     let v = c.args.vcpu in
-    let did : Emulates s q.0 v.0 m = (made c.number-processor.ensures c.in-Emulate.is c.in_ok-serve.ensures.serves).row in
-    frames-stay s m old.holder.view (c.exchanges.ensures.emulates s m q.0 v.0 did) (c.laws.ensures.rows.around s m (Emulate q v) (inl did)) (emulate-end s m q.0 v.0 did ∙ sym did.traps.goes_on.not_ended) c.requires.kept.frames
+    let did : Emulates s q.0 v.0 m = subst (λ (n : ℕ). Emulates s n v.0 m) c.number-processor.ensures c.in-Emulate.ensures.enters in
+    frames-stay s m c.args.self.now.holder.view (c.exchanges.ensures.emulates s m q.0 v.0 did) (c.laws.ensures.rows.around s m (Emulate q v) (inl did)) (emulate-end s m q.0 v.0 did ∙ sym did.traps.goes_on.not_ended) c.requires.kept.frames
 
 pub conclude-requires-clause-used : goal.conclude-requires-clause-used
 conclude-requires-clause-used g c =
-    let old = c.args.self.now in
-    let token : Token = c.args.token.now in
-    let s = state_of old.course in
-    let m = state_of c.serve.new.course in
-    let q : ProcId = processor_of token in
+    let s = state_of c.args.self.now.course in
+    let m = state_of c.serve.new.self in
+    let q : ProcId = processor_of c.args.token.now in
     let v = c.args.vcpu in
-    let w = c.laws.ensures.rows in
-    let did : Emulates s q.0 v.0 m = (made c.number-processor.ensures c.in-Emulate.is c.in_ok-serve.ensures.serves).row in
-    uses-row w s m (Emulate q v) old.uses (inl did) (c.exchanges.ensures.emulates s m q.0 v.0 did) (λ r. refl) c.requires.kept.used
+    let did : Emulates s q.0 v.0 m = subst (λ (n : ℕ). Emulates s n v.0 m) c.number-processor.ensures c.in-Emulate.ensures.enters in
+    uses-row c.laws.ensures.rows s m (Emulate q v) c.args.self.now.uses (inl did) (c.exchanges.ensures.emulates s m q.0 v.0 did) (λ r. refl) c.requires.kept.used
+
+pub conclude-requires-clause-room : goal.conclude-requires-clause-room
+conclude-requires-clause-room g c =
+    let s = state_of c.args.self.now.course in
+    let m = state_of c.serve.new.self in
+    let q : ProcId = processor_of c.args.token.now in
+    let v = c.args.vcpu in
+    let did : Emulates s q.0 v.0 m = subst (λ (n : ℕ). Emulates s n v.0 m) c.number-processor.ensures c.in-Emulate.ensures.enters in
+    let due = emulate-due c.laws.ensures.rows c.laws.ensures.moves s m q v did in
+    let room = two-entries _ _ _ c.requires.room in
+    omega (arith, due, room, letting-open 0 m.pages)
+
+-- a guest that goes on owes no end
+goes-on-then : (halted : Bool) (m t : GuestState) → all_halted m.vcpus ≡ halted → m.end ≡ None → t.end ≡ end_of halted → Concludes halted m t → m.closing ≡ None → t.end ≡ None → GoesOn t
+goes-on-then true m t all on end is closing now = absurd (no (sym end ∙ now))
+  where
+    no : Some ByHalt ≡ None → ⊥
+    no e = cc
+goes-on-then false m t all on end is closing now = subst GoesOn (sym is) (record { not_ended = on; owes_no_end = ap (λ (b : Bool). if b then Some ByHalt else m.closing) all ∙ closing })
 
 pub returns-in-Emulate-clause-kept : goal.returns-in-Emulate-clause-kept
 returns-in-Emulate-clause-kept g c =
     let old = c.args.self.now in
-    let token : Token = c.args.token.now in
+    let d = c.serve.new.self in
     let s = state_of old.course in
-    let m = state_of c.serve.new.course in
-    let k = c.requires.kept in
-    let q : ProcId = processor_of token in
-    let v = c.args.vcpu in
-    let same : c.number-processor.result ≡ q = ap (λ (n : ℕ). record { 0 = n }) c.number-processor.ensures in
-    let w = c.laws.ensures.rows in
-    let there : q.0 < length s.processors = subst (λ (n : ℕ). q.0 < n) (sym k.kept.processors) c.requires.may.notes.is_processor in
+    let m = state_of d in
     let t = state_of c.conclude.new.course in
+    let k = c.requires.kept in
+    let q : ProcId = processor_of c.args.token.now in
+    let v = c.args.vcpu in
+    let w = c.laws.ensures.rows in
     let halted = all_halted m.vcpus in
-    let did : Emulates s q.0 v.0 m = (made c.number-processor.ensures c.in-Emulate.is c.in_ok-serve.ensures.serves).row in
-    let ends = c.conclude.ensures.concludes in
-    let kept = kept-emulate w c.laws.ensures.runs old.start s m t old.journal.entries old.seat.notes q v k.kept there did halted ends in
-    let due = emulate-due w c.laws.ensures.moves s m q v did in
-    let due' = concluded-due halted w c.laws.ensures.moves m t ends in
+    let x = c.conclude.ensures in
+    let e = c.in-Emulate.ensures in
+    let same : c.number-processor.result ≡ q = ap (λ (n : ℕ). record { 0 = n }) c.number-processor.ensures in
+    let there : q.0 < length s.processors = subst (λ (n : ℕ). q.0 < n) (sym k.kept.processors) c.requires.may.notes.is_processor in
+    let did : Emulates s q.0 v.0 m = subst (λ (n : ℕ). Emulates s n v.0 m) c.number-processor.ensures e.enters in
+    let notes = old.seat.notes ++ sided q.0 (Made (Emulate q v)) ∷ [] in
+    let first = kept-step w c.laws.ensures.runs old.start s m old.journal.entries old.seat.notes q v k.kept there (inl did) in
+    let kept = concluded halted c.run_grows.ensures.hand w c.laws.ensures.runs old.start m t m.pages old.journal.entries notes q v first x.concludes refl in
+    let journal = x.entries ∙ ap (λ (p : ProcId). old.journal.entries ++ step_entries p v halted m.pages) same in
+    let packets = packets-then old.course d c.conclude.new.course e.packets x.packets in
     let room = two-entries _ _ _ c.requires.room in
-    let v' = c.laws.ensures.takes in
-    let u' = c.laws.ensures.sends in
-    let here : IsWired old.wiring.wires.value old.wiring.passes s.around = subst (λ (x : Surroundings). IsWired old.wiring.wires.value old.wiring.passes x) (sym k.kept.around) k.wired in
     record {
-      sound = c.conclude.ensures.sound;
-      seat = ap (λ (x : Seat). x.number) c.note.ensures.seat ∙ k.seat;
+      sound = x.sound;
+      seat = ap (λ (y : Seat). y.number) c.note.ensures.seat ∙ k.seat;
       booted = k.booted;
-      kept = of-these old.start t _ _ _ _ (c.conclude.ensures.entries ∙ ap (λ (p : ProcId). old.journal.entries ++ step_entries p v halted) same) (ap (λ (x : Seat). x.notes) c.note.ensures.seat ∙ ap (λ (p : ProcId). old.seat.notes ++ sided q.0 (Made (Emulate p v)) ∷ []) same) kept;
-      goes_on = λ on. goes-on halted m t refl (emulate-end s m q.0 v.0 did) refl ends on;
-      frames = c.conclude.ensures.frames;
-      used = c.conclude.ensures.used;
+      kept = of-these old.start t _ _ _ _ journal (ap (λ (y : Seat). y.notes) c.note.ensures.seat ∙ ap (λ (p : ProcId). old.seat.notes ++ sided q.0 (Made (Emulate p v)) ∷ []) same) kept;
+      goes_on = goes-on-then halted m t refl (emulate-end s m q.0 v.0 did) x.end x.concludes refl;
+      frames = x.frames;
+      used = x.used;
       at_home = k.at_home;
-      owed = omega (arith, due, due', room, c.conclude.ensures.room);
+      owed = omega (arith, emulate-due w c.laws.ensures.moves s m q v did, room, x.room);
       few_guests = k.few_guests;
-      wired = subst (λ (m : Wires). IsWired m c.post.new.self.passes old.start.around) (ap (λ x. x.value) (sym c.post.ensures.wires))
-          (wired-again old.wiring.wires.value old.wiring.passes c.post.new.self.passes old.start.around k.wired (subst (λ (m : Wires). IsListOf m c.post.new.self.passes) (sym c.requires.shared.wires) c.post.ensures.list) (sent-guest old.wiring.passes c.post.new.self.passes c.in-Emulate.out c.post.ensures.sent));
-      posted = subst (λ (j : List Event). Posted t j c.post.new.self.passes) (sym (c.conclude.ensures.entries ∙ ap (λ (p : ProcId). old.journal.entries ++ step_entries p v halted) same))
-          (posted-out u' v' old.wiring.wires.value s t old.journal.entries (step_entries q v halted) old.wiring.passes c.post.new.self.passes c.in-Emulate.out here k.posted
-          (posts-concluded halted s m t c.in-Emulate.out (subst (λ a. Posts s (out_of (Ok a)) m) c.in-Emulate.is c.in_ok-serve.ensures.posts) ends) (quiet-step s q v halted) c.post.ensures.sent);
+      wired = k.wired;
+      posted = subst (λ (j : List Event). Posted t j old.wiring.passes) (sym journal)
+          (posted-same c.laws.ensures.takes s t old.journal.entries (step_entries q v halted m.pages) old.wiring.passes k.posted (takes-none old.course c.conclude.new.course packets) packets.sent
+          (ap (λ (l : Vec CellId). map (λ (y : CellId). y.0) l.items) (x.cells ∙ e.cells)) (x.around ∙ w.around s m (Emulate q v) (inl did)) (quiet-step s q v halted m.pages));
     }
 
 pub returns-in-Emulate-clause-turns : goal.returns-in-Emulate-clause-turns
 returns-in-Emulate-clause-turns g c =
     let old = c.args.self.now in
-    let token : Token = c.args.token.now in
+    let d = c.serve.new.self in
     let s = state_of old.course in
-    let m = state_of c.serve.new.course in
-    let q : ProcId = processor_of token in
+    let m = state_of d in
+    let t = state_of c.conclude.new.course in
+    let q : ProcId = processor_of c.args.token.now in
     let v = c.args.vcpu in
+    let halted = all_halted m.vcpus in
+    let x = c.conclude.ensures in
+    let e = c.in-Emulate.ensures in
     let same : c.number-processor.result ≡ q = ap (λ (n : ℕ). record { 0 = n }) c.number-processor.ensures in
-    let did : Emulates s q.0 v.0 m = (made c.number-processor.ensures c.in-Emulate.is c.in_ok-serve.ensures.serves).row in
-    let posts : Posts s c.in-Emulate.out m = subst (λ a. Posts s (out_of (Ok a)) m) c.in-Emulate.is c.in_ok-serve.ensures.posts in
-    let sent = posts-concluded (all_halted m.vcpus) s m (state_of c.conclude.new.course) c.in-Emulate.out posts c.conclude.ensures.concludes in
-    emulate-turn (all_halted m.vcpus) (guest_of old) _ m q v refl c.requires.rest (made c.number-processor.ensures c.in-Emulate.is c.in_ok-serve.ensures.serves).free did c.conclude.ensures.concludes (c.conclude.ensures.entries ∙ ap (λ (p : ProcId). old.journal.entries ++ step_entries p v (all_halted m.vcpus)) same)
-    (record { out = c.in-Emulate.out; sends = sent.sends; sent = c.post.ensures.sent })
+    let did : Emulates s q.0 v.0 m = subst (λ (n : ℕ). Emulates s n v.0 m) c.number-processor.ensures e.enters in
+    let packets = packets-then old.course d c.conclude.new.course e.packets x.packets in
+    let posts = posts-none s t (takes-none old.course c.conclude.new.course packets) packets.sent (ap (λ (l : Vec CellId). map (λ (y : CellId). y.0) l.items) (x.cells ∙ e.cells)) (x.around ∙ c.laws.ensures.rows.around s m (Emulate q v) (inl did)) in
+    let now : all_halted t.vcpus ≡ halted = ap (λ (l : Vec _). all_halted l.items) x.vcpus in
+    let new = (guest_of (record old { course = c.conclude.new.course; holder = c.conclude.new.holder; uses = c.conclude.new.uses; journal = c.conclude.new.journal; seat = c.note.new.seat })) in
+    let done : Makes (guest_of old) (step_entries q v halted m.pages) new = record { journal = x.entries ∙ ap (λ (p : ProcId). old.journal.entries ++ step_entries p v halted m.pages) same; run = step-run halted s m t q v (inl did) x.concludes } in
+    record {
+      rest = c.requires.rest;
+      uses = uses-none _ old.disk s v.0 old.holder.view _ (c.serve.ensures.uses_none c.in-Emulate.is);
+      mid = m;
+      step = inl did;
+      makes = subst (λ (b : Bool). Makes (guest_of old) (step_entries q v b m.pages) new) (sym now) done;
+      end = x.end ∙ sym (ap end_of now);
+      sends = record { out = None; whole = tt; sends = posts.sends; sent = same-ends old.wiring.passes };
+    }
 
 pub returns-in-Emulate-clause-leaves : goal.returns-in-Emulate-clause-leaves
 returns-in-Emulate-clause-leaves g c =
     let old = c.args.self.now in
     let token : Token = c.args.token.now in
+    let d = c.serve.new.self in
+    let u = c.conclude.new.course in
     let s = state_of old.course in
-    let m = state_of c.serve.new.course in
+    let m = state_of d in
     let k = c.requires.kept in
     let q : ProcId = processor_of token in
     let v = c.args.vcpu in
+    let x = c.conclude.ensures in
+    let e = c.in-Emulate.ensures in
     let same : c.number-processor.result ≡ q = ap (λ (n : ℕ). record { 0 = n }) c.number-processor.ensures in
-    let w = c.laws.ensures.rows in
-    let t = state_of c.conclude.new.course in
-    let halted = all_halted m.vcpus in
-    let did : Emulates s q.0 v.0 m = (made c.number-processor.ensures c.in-Emulate.is c.in_ok-serve.ensures.serves).row in
-    let due = emulate-due w c.laws.ensures.moves s m q v did in
-    let due' = concluded-due halted w c.laws.ensures.moves m t c.conclude.ensures.concludes in
-    let ends = c.conclude.ensures in
-    let uses = turn-uses old.course c.serve.new.course c.serve.ensures.room in
-    let uses' : UsesCall old.course c.conclude.new.course = record {
-      print_room = rw ends.devs uses.print_room;
-      send_room = rw ends.devs uses.send_room;
-      cells = rw ends.cells uses.cells;
-      received = rw ends.received uses.received;
-      begins = rw ends.begins uses.begins;
-      skips = rw ends.skips uses.skips;
+    let did : Emulates s q.0 v.0 m = subst (λ (n : ℕ). Emulates s n v.0 m) c.number-processor.ensures e.enters in
+    let due = emulate-due c.laws.ensures.rows c.laws.ensures.moves s m q v did in
+    let packets = packets-then old.course d u e.packets x.packets in
+    let uses : UsesCall old.course u = record {
+      print_room = rw x.devs e.print_room;
+      send_room = rw x.devs (omega (arith, e.send_room));
+      cells = no-more _ _ (x.cells ∙ e.cells);
+      received = no-more _ _ packets.received;
+      begins = omega (arith, x.begins, e.room);
+      skips = no-more _ _ (x.skips ∙ e.skips);
     } in
     record {
       learns = record {
-        seat = ap (λ (x : Seat). x.notes) c.note.ensures.seat ∙ ap (λ (p : ProcId). old.seat.notes ++ sided token.number (Made (Emulate p v)) ∷ []) same;
+        seat = ap (λ (y : Seat). y.notes) c.note.ensures.seat ∙ ap (λ (p : ProcId). old.seat.notes ++ sided token.number (Made (Emulate p v)) ∷ []) same;
         token_is = c.note.ensures.token ∙ ap (λ (p : ProcId). record token { notes = token.notes ++ sided old.seat.number (Made (Emulate p v)) ∷ [] }) same ∙ ap (λ (n : ℕ). record token { notes = token.notes ++ sided n (Made (Emulate (processor_of token) v)) ∷ [] }) k.seat;
       };
-      same = record { number = refl; start = refl; board = ap (λ (x : Seat). x.board) c.note.ensures.seat; table = ends.same; wires = ap (λ x. x.value) c.post.ensures.wires; own = sent-guest old.wiring.passes c.post.new.self.passes c.in-Emulate.out c.post.ensures.sent };
-      room = room-used _ _ old.course c.conclude.new.course uses' (omega (arith, due, due', ends.room));
+      same = record { number = refl; start = refl; disk = refl; board = ap (λ (y : Seat). y.board) c.note.ensures.seat; table = x.same; wires = refl; own = refl };
+      handed = handed-same old.course u packets.hand;
+      room = room-used _ _ old.course u uses (omega (arith, due, x.room));
     }
 
--- what goes out is on a wire of the guest
-pub post-requires-clause-fits : goal.post-requires-clause-fits
-post-requires-clause-fits g c =
-    let old = c.args.self.now in
-    let s = state_of old.course in
-    let m = state_of c.serve.new.course in
-    let k = c.requires.kept in
-    let posts : Posts s c.in-Emulate.out m = subst (λ a. Posts s (out_of (Ok a)) m) c.in-Emulate.is c.in_ok-serve.ensures.posts in
-    fits-out c.args.resources.now.wires.now old.wiring.passes s c.in-Emulate.out posts.goes (k.wired.number ∙ sym (ap (λ (x : Surroundings). x.guest) k.kept.around))
+-- ---- the step is on a page with a move, or one that needs a move
 
-pub post-requires-clause-there : goal.post-requires-clause-there
-post-requires-clause-there g c =
+-- nothing has changed before it
+pub meet-requires-clause-meets : goal.meet-requires-clause-meets
+meet-requires-clause-meets g c =
+    subst (λ (x : Course). MeetsPage (state_of x) c.number-processor.result.0 c.args.vcpu.0 c.in-Waits.page.0) (sym c.in-Waits.ensures.same) (inl c.in-Waits.ensures.enters.reaches)
+
+pub returns-in-Waits-clause-turns : goal.returns-in-Waits-clause-turns
+returns-in-Waits-clause-turns g c =
     let old = c.args.self.now in
+    let shared = shared_by c.args.resources.now in
+    let new = guest_of c.meet.new.self in
+    let here : TurnAnswers shared (guest_of (record old { course = c.serve.new.self })) (processor_of c.args.token.now) c.args.vcpu new c.meet.result =
+    subst (λ (p : ProcId). TurnAnswers shared (guest_of (record old { course = c.serve.new.self })) p c.args.vcpu new c.meet.result) (ap (λ (n : ℕ). record { 0 = n }) c.number-processor.ensures) c.meet.ensures.turns in
+    subst (λ (x : Course). TurnAnswers shared (guest_of (record old { course = x })) (processor_of c.args.token.now) c.args.vcpu new c.meet.result) c.in-Waits.ensures.same here
+
+pub returns-in-Needs-clause-turns : goal.returns-in-Needs-clause-turns
+returns-in-Needs-clause-turns g c =
+    let old = c.args.self.now in
+    let shared = shared_by c.args.resources.now in
+    let new = guest_of c.begin_store.new.self in
+    let mid = guest_of (record old { course = c.serve.new.self }) in
     let s = state_of old.course in
-    let m = state_of c.serve.new.course in
-    let k = c.requires.kept in
-    let posts : Posts s c.in-Emulate.out m = subst (λ a. Posts s (out_of (Ok a)) m) c.in-Emulate.is c.in_ok-serve.ensures.posts in
-    there-out old.wiring.wires.value old.wiring.passes s c.in-Emulate.out (subst (λ (x : Surroundings). IsWired old.wiring.wires.value old.wiring.passes x) (sym k.kept.around) k.wired) posts.goes
+    let m = state_of c.serve.new.self in
+    let q : ProcId = processor_of c.args.token.now in
+    let v = c.args.vcpu in
+    let r = c.in-Needs.page in
+    let kind = c.in-Needs.kind in
+    let same : c.number-processor.result ≡ q = ap (λ (n : ℕ). record { 0 = n }) c.number-processor.ensures in
+    let needs : StaysNeeding s q.0 v.0 r.0 kind m = subst (λ (n : ℕ). StaysNeeding s n v.0 r.0 kind m) c.number-processor.ensures c.in-Needs.ensures.enters in
+    let begins : BeginsFor mid q r kind new = subst (λ (p : ProcId). BeginsFor mid p r kind new) same c.begin_store.ensures.begins in
+    let stores = subst (λ (x : Course). at_hand (state_of x) v.0 ≡ StoresTo r.0) c.in-Needs.ensures.same c.begin_store.ensures.stores in
+    begun-store shared (guest_of old) new q v r kind c.requires.rest (needs-kind s r.0 kind needs.needs.needs) (inl needs.reaches) stores
+    (subst (λ (x : Course). BeginsFor (guest_of (record old { course = x })) q r kind new) c.in-Needs.ensures.same begins)
+
+pub returns-in-Waits-clause-leaves : goal.returns-in-Waits-clause-leaves
+returns-in-Waits-clause-leaves g c =
+    let old = c.args.self.now in
+    let token = c.args.token.now in
+    let new = guest_of c.meet.new.self in
+    let v = c.args.vcpu in
+    let none : told_of_turn (processor_of token) v (Ok c.meet.result) ≡ [] = subst (λ (p : ProcId). told_of_turn p v (Ok c.meet.result) ≡ []) (ap (λ (n : ℕ). record { 0 = n }) c.number-processor.ensures) c.meet.ensures.told in
+    let quiet : Quietly (guest_of old) new = subst (λ (x : Course). Quietly (guest_of (record old { course = x })) new) c.in-Waits.ensures.same c.meet.ensures.quiet in
+    subst (λ (told : List Note). Leaves (guest_of old) token told new token) (sym none) (quiet-leaves (guest_of old) new token quiet)

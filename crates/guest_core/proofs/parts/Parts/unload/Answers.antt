@@ -8,6 +8,7 @@ use Rattle.shootdown.specs.Notes.{Seat, sided}
 use Rattle.isolation_law.specs.GuestState.{GuestState}
 use Rattle.guest_course.specs.CourseView.{state_of}
 use Rattle.guest_core.specs.Kept.{Kept}
+use Rattle.guest_core.proofs.EnterProofs.{handed-same}
 use Rattle.guest_core.proofs.HoldingLemmas.{frames-stay}
 use Rattle.guest_core.proofs.KeptProofs.{kept-one, unload-due}
 use Rattle.guest_core.proofs.RoomLemmas.{KeepsCalls, room-kept}
@@ -68,6 +69,7 @@ returns-clause-leaves c =
     let room = returns-clause-room c in
     record {
       learns = record { seat = search rules; token_is = search rules };
-      same = record { number = refl; start = refl; board = ap (λ (x : Seat). x.board) c.note.ensures.seat; table = refl; wires = refl; own = refl };
+      same = record { number = refl; start = refl; disk = refl; board = ap (λ (x : Seat). x.board) c.note.ensures.seat; table = refl; wires = refl; own = refl };
+      handed = handed-same c.args.self.now.course c.unload.new.self c.unload.ensures.packets.hand;
       room = omega (arith, room);
     }

@@ -21,7 +21,7 @@ broken c =
     let pages = c.take_spare-spare.ensures.pages in
     let rest = c.take_spare-spare.new.self.spares in
     c.open.ensures.opened
-    ∙ (λ i. with_begun (record s { pages = pages i; operations = replicate (length (pages i)) None; spares = rest }) c.args.page.0 (Breaks (copy_of c.take_spare-spare.result)) None rest)
+    ∙ (λ i. with_begun (record s { pages = pages i; spares = rest }) c.args.page.0 (Breaks (copy_of c.take_spare-spare.result)) None rest)
 
 break-row : (c : goal.After-open) (by : By) → Asks (state_of c.args.self.now) by (home_wish (state_of c.args.self.now) c.args.page.0 c.args.kind) None
     → Begins (state_of c.args.self.now) c.args.page.0 c.args.kind (state_of c.args.self.now).around.home by (state_of c.open.new.self)

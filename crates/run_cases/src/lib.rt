@@ -1,0 +1,10 @@
+//! What the tests of whole runs have in common: the files and the words of a call, guests of one image and their record, and its journals.
+#![tactic(auto)]
+
+mod files;
+mod journals;
+mod turns;
+
+pub use files::{PRINTS_A, Part, file_of_parts, held, words_of};
+pub use journals::have_entries;
+pub use turns::{Delaying, counts, crowd, record_of, record_with_disk};
