@@ -1,0 +1,2 @@
+mod LackingLemmas
+pub mod DiskLemmas

@@ -74,8 +74,8 @@ fn frames(alloc: Global, program: &[u8]) -> Result<FrameList, AllocError>
     Ok(frames)
 }
 
-/// One node of eight frames with one processor, and no policy.
-fn around(alloc: Global) -> Result<Around, AllocError>
+/// One node of eight frames with one processor, on which two guests are at home, and no policy.
+pub(crate) fn around(alloc: Global) -> Result<Around, AllocError>
     ensures nodes { IfOk result (λ around. around.site.shape.nodes ≡ 1) }
     ensures frames { IfOk result (λ around. around.site.shape.frames ≡ 8) }
     ensures processors { IfOk result (λ around. around.site.processors ≡ record { 0 = 0 } ∷ []) }
@@ -85,6 +85,7 @@ fn around(alloc: Global) -> Result<Around, AllocError>
     let mut processors = Sequence::new(alloc);
     processors.push(NodeId(0))?;
     let mut homes = Sequence::new(alloc);
+    homes.push(CellId(0))?;
     homes.push(CellId(0))?;
     Ok(Around {
         number: GuestId(0),

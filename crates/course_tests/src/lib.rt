@@ -4,6 +4,12 @@
 #[cfg(test)]
 mod guest_course_entries;
 #[cfg(test)]
+mod guest_course_packets;
+#[cfg(test)]
+mod guest_course_sharing;
+#[cfg(test)]
+mod guest_course_turns;
+#[cfg(test)]
 mod page_moves_kinds;
 #[cfg(test)]
 mod page_moves_rig;

@@ -1,6 +1,11 @@
 //! How the guests of a description are booted.
-ghost use Rattle.std.specs.Prelude.{◌≡◌, IfOk, IfSome, None, Some, slice_get};
+ghost use Rattle.std.specs.Prelude.{◌≡◌, ◌<◌, ◌*◌, ℕ, [], IfOk, IfSome, None, Some, length, map, slice_get, slice_index_or};
+ghost use Rattle.std.specs.Arc.{arc_value};
 ghost use Rattle.std.specs.Bool.{OnTrue};
+ghost use Rattle.frame_words.specs.Holders.{IsMade};
+ghost use Rattle.private_machine.specs.Disk.{as_given};
+ghost use Rattle.cow_disk.specs.DiskView.{bytes_of};
+ghost use Rattle.guest_course.specs.BootCalls.{given_blocks};
 ghost use Rattle.node_frames.specs.Layout.{layout_of};
 ghost use Rattle.machine_desc.specs.declared.machine.GuestSpec.{GuestSpec};
 ghost use Rattle.machine_desc.specs.declared.machine.Machine.{Machine};
@@ -13,16 +18,18 @@ ghost use Rattle.guest_tests.specs.Ready.{HasSize, IsReady, AreReady};
 use crate::guest_lock_turns::Started;
 use crate::lane::{Lane, Size};
 use crate::pair::Pair;
+use base_words::{Blocks, Page, Sequence};
 use block_caches::Caches;
 use boot_frames::{admit, needs_of};
 use cow_disk::Disk;
 use elf_image::load_raw;
-use frame_words::FrameTable;
+use frame_words::{FrameTable, Holder};
 use guest_core::Guest;
 use machine_desc::{GuestSpec, Machine, Plan, read};
 use run_workers::{Booted, Source, SourceList, boot};
 use shootdown::ProcToken;
 use std::alloc::{AllocError, Global};
+use std::sync::Arc;
 use unbuilt_keys::unbuilt;
 use wire_queue::Wires;
 
@@ -98,6 +105,32 @@ vcpus = 1
 node = 0
 "#;
 
+/// Two guests of three pages each with one disk, on a node with a processor for each, whose cell keeps a block.
+pub(crate) const WITH_A_BLOCK: &str = r#"
+[machine]
+nodes = 1
+frames = 7
+processors = [0, 0]
+cache = 1
+[[cell]]
+nodes = [0]
+lend = 0
+[[guest]]
+image = "first.raw"
+form = "raw"
+pages = 3
+vcpus = 1
+node = 0
+disk = "d.img"
+[[guest]]
+image = "second.raw"
+form = "raw"
+pages = 3
+vcpus = 1
+node = 0
+disk = "d.img"
+"#;
+
 /// The words of a raw image.
 fn file_of(alloc: Global, program: &[u32]) -> Result<Vec<u8>, AllocError> {
     let mut file = Vec::new(alloc);
@@ -107,6 +140,31 @@ fn file_of(alloc: Global, program: &[u32]) -> Result<Vec<u8>, AllocError> {
     Ok(file)
 }
 
+/// A disk of one block, whose first word is the letter a.
+fn block(alloc: Global) -> Result<Arc<Blocks>, AllocError>
+    ensures one { IfOk result (λ base. length (arc_value base) ≡ 1) }
+    ensures whole { IfOk result (λ base. (k : ℕ) → k < length (bytes_of (arc_value base)) → length (slice_index_or (bytes_of (arc_value base)) k []) ≡ 4096) }
+{
+    let mut page = Page::zeroed(alloc)?;
+    page.set_byte(3, b'a');
+    let mut blocks = Sequence::new(alloc);
+    blocks.push(page)?;
+    Ok(Arc::new(alloc, blocks)?)
+}
+
+/// The disk of a guest, where it has one.
+fn disk_of(alloc: Global, spec: &GuestSpec) -> Result<Disk, AllocError>
+    ensures unwritten { IfOk result (λ disk. disk ≡ map as_given (given_blocks disk)) }
+    ensures blocks { IfOk result (λ disk. (k : ℕ) → k < length (given_blocks disk) → length (slice_index_or (given_blocks disk) k []) ≡ 4096) }
+{
+    if spec.disk.is_none() {
+        return Ok(Disk::new(alloc, None));
+    }
+    let disk = Disk::new(alloc, Some(block(alloc)?));
+    Ok(disk)
+}
+
+/// What a guest starts from. All guests with a disk have the same one.
 fn source(alloc: Global, program: &[u32], spec: &GuestSpec) -> Result<Source, AllocError>
     ensures { IfOk result (IsSource spec.now) }
 {
@@ -114,8 +172,8 @@ fn source(alloc: Global, program: &[u32], spec: &GuestSpec) -> Result<Source, Al
     match load_raw(alloc, &file, spec.pages) {
         Ok(image) => Ok(Source {
             image,
-            disk: Disk::new(alloc, None),
-            number: None,
+            disk: disk_of(alloc, spec)?,
+            number: if spec.disk.is_some() { Some(0) } else { None },
         }),
         Err(_) => Err(AllocError),
     }
@@ -226,6 +284,8 @@ struct TwoReady {
     table: FrameTable,
     wires: Wires,
     caches: Caches,
+    holder: Holder,
+    frames: u32,
     first: ReadyGuest,
     second: ReadyGuest,
 }
@@ -240,25 +300,46 @@ fn booted(
     requires described { IsDescribed machine.now plan.now }
     requires served { AreServed (layout_of machine.now.shape) machine.now.lends machine.now.cache machine.now.guests }
     requires sources { AreSources machine.now.guests sources }
-    ensures { IfOk result (λ b. AreReady machine.now b.guests.items b.tokens (record { table = b.table; wires = b.wires; indexes = b.caches.indexes.items })) }
+    ensures ready { IfOk result (λ b. AreReady machine.now b.guests.items b.tokens (record { table = b.table; wires = b.wires; indexes = b.caches.indexes.items })) }
+    ensures made { IfOk result (λ b. IsMade b.table b.holder) }
+    ensures frames { IfOk result (λ b. b.table.terms.frames ≡ machine.now.shape.nodes * machine.now.shape.frames) }
 {
     boot(alloc, machine, plan, sources)
 }
 
+/// How many frames a machine has.
+fn frames_of(machine: &Machine, plan: &Plan) -> u32
+    requires { IsDescribed machine.now plan.now }
+    ensures { result ≡ machine.now.shape.nodes * machine.now.shape.frames }
+{
+    let _ = plan;
+    u32::from(machine.shape.nodes) * machine.shape.frames
+}
+
 /// The first two guests of those that were booted, which have these sizes; none where there are fewer.
-fn two_of(machine: &Machine, booted: Booted, one: Size, other: Size) -> Option<TwoReady>
+fn two_of(
+    machine: &Machine,
+    booted: Booted,
+    frames: u32,
+    one: Size,
+    other: Size,
+) -> Option<TwoReady>
+    requires made { IsMade booted.table booted.holder }
+    requires frames { booted.table.terms.frames ≡ frames }
     requires ready { AreReady machine.now booted.guests.items booted.tokens (record { table = booted.table; wires = booted.wires; indexes = booted.caches.indexes.items }) }
     requires first { HasSize machine.now 0 one.vcpus one.pages one.nodes }
     requires second { HasSize machine.now 1 other.vcpus other.pages other.nodes }
     ensures first { IfSome result (λ two. IsReady two.first.size.vcpus two.first.size.pages two.first.size.nodes (record { table = two.table; wires = two.wires; indexes = two.caches.indexes.items }) 0 two.first.guest two.first.token) }
     ensures second { IfSome result (λ two. IsReady two.second.size.vcpus two.second.size.pages two.second.size.nodes (record { table = two.table; wires = two.wires; indexes = two.caches.indexes.items }) 1 two.second.guest two.second.token) }
+    ensures made { IfSome result (λ two. IsMade two.table two.holder) }
+    ensures frames { IfSome result (λ two. two.table.terms.frames ≡ two.frames) }
 {
     let _ = machine;
     let Booted {
         guests,
         tokens,
         table,
-        holder: _,
+        holder,
         wires,
         caches,
     } = booted;
@@ -267,6 +348,8 @@ fn two_of(machine: &Machine, booted: Booted, one: Size, other: Size) -> Option<T
         table,
         wires,
         caches,
+        holder,
+        frames,
         first: ReadyGuest {
             guest: first.0,
             token: first.1,
@@ -289,24 +372,31 @@ fn two_ready(
 ) -> Result<TwoReady, AllocError>
     ensures first { IfOk result (λ two. IsReady two.first.size.vcpus two.first.size.pages two.first.size.nodes (record { table = two.table; wires = two.wires; indexes = two.caches.indexes.items }) 0 two.first.guest two.first.token) }
     ensures second { IfOk result (λ two. IsReady two.second.size.vcpus two.second.size.pages two.second.size.nodes (record { table = two.table; wires = two.wires; indexes = two.caches.indexes.items }) 1 two.second.guest two.second.token) }
+    ensures made { IfOk result (λ two. IsMade two.table two.holder) }
+    ensures frames { IfOk result (λ two. two.table.terms.frames ≡ two.frames) }
 {
     let (machine, plan, sources) = described(alloc, text, first, second)?;
     let (Some(one), Some(other)) = (size_at(&machine, 0), size_at(&machine, 1)) else {
         return Err(AllocError);
     };
     let booted = booted(alloc, &machine, &plan, sources)?;
-    two_of(&machine, booted, one, other).ok_or(AllocError)
+    let frames = frames_of(&machine, &plan);
+    two_of(&machine, booted, frames, one, other).ok_or(AllocError)
 }
 
 /// Each guest with the token of its processor, for calls without a lock.
 fn pair_of(two: TwoReady) -> Pair
     requires first { IsReady two.first.size.vcpus two.first.size.pages two.first.size.nodes (record { table = two.table; wires = two.wires; indexes = two.caches.indexes.items }) 0 two.first.guest two.first.token }
     requires second { IsReady two.second.size.vcpus two.second.size.pages two.second.size.nodes (record { table = two.table; wires = two.wires; indexes = two.caches.indexes.items }) 1 two.second.guest two.second.token }
+    requires made { IsMade two.table two.holder }
+    requires frames { two.table.terms.frames ≡ two.frames }
 {
     Pair {
         table: two.table,
         wires: two.wires,
         caches: two.caches,
+        holder: two.holder,
+        frames: two.frames,
         first: Lane::new(two.first.guest, two.first.token, two.first.size),
         second: Lane::new(two.second.guest, two.second.token, two.second.size),
     }

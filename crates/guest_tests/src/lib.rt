@@ -12,6 +12,8 @@ mod guest_core_packets;
 #[cfg(test)]
 mod guest_core_policy;
 #[cfg(test)]
+mod guest_core_sharing;
+#[cfg(test)]
 mod guest_lock_turns;
 #[cfg(test)]
 mod lane;

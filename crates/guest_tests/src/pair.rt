@@ -1,13 +1,14 @@
 //! Two guests, each with a processor of its own, and what they share.
-ghost use Rattle.std.specs.Prelude.{IsSome};
+ghost use Rattle.std.specs.Prelude.{◌≡◌, IsSome};
 ghost use Rattle.std.specs.Bool.{OnTrue};
+ghost use Rattle.frame_words.specs.Holders.{IsMade};
 ghost use Rattle.guest_core.specs.GuestView.{AreOf};
 ghost use Rattle.wire_queue.specs.PassLists.{IsListOf, taking_from};
 
 use crate::lane::Lane;
-use base_words::{GuestId, NodeId, Ppn, VcpuId};
+use base_words::{FrameNo, GuestId, NodeId, Ppn, VcpuId};
 use block_caches::Caches;
-use frame_words::FrameTable;
+use frame_words::{FrameTable, Holder, Took, take};
 use guest_core::{Asked, GuestRecord, Loaded, Packeted, Ready, Resources, Turn};
 use std::alloc::{AllocError, Global};
 use std::sync::Wait;
@@ -20,19 +21,41 @@ pub(crate) enum Side {
     Second,
 }
 
-/// The two guests, the table of their frames, the wires between them, and the blocks that they share.
+/// The two guests, the table of their frames, the wires between them, and the blocks that they share; a further holder, and how many frames
+/// there are.
 #[derive(Drop)]
 pub(crate) struct Pair {
     pub(crate) table: FrameTable,
     pub(crate) wires: Wires,
     pub(crate) caches: Caches,
+    pub(crate) holder: Holder,
+    pub(crate) frames: u32,
     pub(crate) first: Lane,
     pub(crate) second: Lane,
+    ghost made: { IsMade table holder },
+    ghost frames_are: { table.terms.frames ≡ frames },
     ghost first_of: { AreOf (record { table = table; wires = wires; indexes = caches.indexes.items }) first.guest },
     ghost second_of: { AreOf (record { table = table; wires = wires; indexes = caches.indexes.items }) second.guest },
 }
 
 impl Pair {
+    /// The frame in which the first cell keeps the first block of the first disk, if it does.
+    pub(crate) fn kept_frame(&self) -> Option<FrameNo> {
+        let index = self.caches.indexes.first()?;
+        Some(index.find(0, 0)?.number)
+    }
+
+    /// How often a frame is held, as another holder sees it; none where it is free or spent, or no frame of the machine.
+    pub(crate) fn holds_of(&mut self, frame: FrameNo) -> Option<u32> {
+        if frame.0 >= self.frames {
+            return None;
+        }
+        match take(&self.table, &mut self.holder, frame) {
+            Took::Held(seen) => Some((seen % (1 << 32)) as u32),
+            Took::Took(_) | Took::Spent(_) => None,
+        }
+    }
+
     /// Loads the virtual processor of a guest on its processor.
     pub(crate) fn load(&mut self, side: Side) -> Result<Loaded, AllocError> {
         match side {
@@ -171,6 +194,8 @@ impl Pair {
             table,
             wires,
             caches,
+            holder: _,
+            frames: _,
             first,
             second,
         } = self;

@@ -2,6 +2,9 @@ use Rattle.std.proofs.lemmas.Result.{IfOk-weaker}
 use Rattle.guest_tests.proofs.ReadyLemmas.{ready}
 use Rattle.guest_tests.proofs.booting.booted.Goals as goal
 
-pub returns : goal.returns
-returns c =
+pub returns-clause-ready : goal.returns-clause-ready
+returns-clause-ready c =
     IfOk-weaker c.boot.result _ _ (λ b has. ready c.args.machine.now c.args.plan.now c.args.sources b.guests.items b.tokens (record { table = b.table; wires = b.wires; indexes = b.caches.indexes.items }) b.holder c.requires.described c.requires.sources has) c.boot.ensures.booted
+
+pub returns-clause-made : goal.returns-clause-made
+returns-clause-made c = IfOk-weaker c.boot.result _ _ (λ b has. has.made) c.boot.ensures.booted

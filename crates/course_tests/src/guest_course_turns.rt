@@ -1,0 +1,282 @@
+//! Turns of a guest on processor 0, for the tests: what is to be done for moves of its pages, and the entries between. A page is shared
+//! wherever it can be: the copy of block n lies in frame 6 + n, and frame 3 is the spare for a page that is given.
+ghost use Rattle.std.specs.Prelude.{◌≡◌, ◌<◌, IfOk, Some, length};
+ghost use Rattle.std.specs.Bool.{OnTrue};
+ghost use Rattle.std.specs.Vec.{vec_len, vec_capacity};
+ghost use Rattle.private_machine.specs.Backing.{Copy};
+ghost use Rattle.pmap_table.specs.Frames.{shared_copy_of};
+ghost use Rattle.isolation_law.specs.GuestState.{block as block_of};
+ghost use Rattle.isolation_law.specs.MoveRows.{IsForeign};
+ghost use Rattle.guest_course.specs.CourseRules.{IsSound};
+ghost use Rattle.guest_course.specs.CourseView.{state_of};
+ghost use Rattle.guest_course.specs.EmulateCalls.{LeavesAct};
+ghost use Rattle.guest_course.specs.Hurdles.{ActIsFree};
+ghost use Rattle.guest_course.specs.Posting.{to_give, AreWithin};
+ghost use Rattle.guest_course.specs.StepCalls.{MayStep};
+ghost use Rattle.course_tests.specs.Lacking.{LacksFrame};
+
+use base_words::{Frame, FrameNo, HwStep, MoveKind, Page, Ppn, ProcId, SharedFrame, VcpuId};
+use guest_course::{Course, Entry, Errand, Hurdle, Outgoing, acts_are_at_hand};
+use guest_devs::DevAct;
+use pmap_table::Pmap;
+use std::alloc::{AllocError, Global};
+use std::sync::Arc;
+use wire_queue::Body;
+
+/// The processor on which the guest runs.
+pub(crate) const PROCESSOR: ProcId = ProcId(0);
+
+/// The frame of the copy of block 0.
+const FIRST_COPY: u32 = 6;
+
+/// The spare for a page that is given.
+const SPARE: FrameNo = FrameNo(3);
+
+/// What went on the wire of another guest: the frame that it hands on, if it does, how many bytes it has, and the first of them.
+#[derive(Clone, Copy, Debug, PartialEq, Eq)]
+pub(crate) struct Sent {
+    pub(crate) frame: Option<FrameNo>,
+    pub(crate) length: u32,
+    pub(crate) first: u8,
+}
+
+/// What a turn did.
+#[derive(Clone, Copy, Debug, PartialEq, Eq)]
+pub(crate) enum Did {
+    /// The processor stepped by itself.
+    Direct,
+    /// The processor's TLB got a half.
+    Refilled,
+    /// The monitor made the step.
+    Emulated,
+    /// The same, by which this went to another guest.
+    Sent(Sent),
+    /// A move of this page began.
+    Begun(Ppn, MoveKind),
+    /// The processor acknowledged the move of this page.
+    Acknowledged(Ppn),
+    /// The move of this page ended, which freed this frame as the last, if one.
+    Finished(Ppn, Option<FrameNo>),
+    /// The monitor made the step, by which this page was taken shared; the same.
+    Took(Ppn, Option<FrameNo>),
+    /// The step is on this page, whose move isn't over.
+    Waits(Ppn),
+}
+
+/// A frame with a copy of a block, as the disk was given.
+fn copy_of_block(alloc: Global, course: &Course, block: u32) -> Result<SharedFrame, AllocError>
+    requires { block < length course.now.disk }
+    ensures { IfOk result (λ frame. (shared_copy_of frame).bytes ≡ (block_of (state_of course.now) block).given) }
+{
+    let mut page = Page::zeroed(alloc)?;
+    match course.disk.base_block(block) {
+        Some(given) => page.copy_from(given),
+        None => unreachable!(),
+    }
+    Ok(SharedFrame {
+        number: FrameNo(FIRST_COPY.saturating_add(block)),
+        generation: 1,
+        page: Arc::new(alloc, page)?,
+    })
+}
+
+/// Whether a page surely has nothing to do with a frame: another one is its master, and it has no replicas and no move.
+fn lacks(pmap: &Pmap, page: Ppn, frame: FrameNo) -> bool
+    requires { page.0 < length pmap.now.pages }
+    ensures { OnTrue result (LacksFrame frame.0 pmap.now.pages page.0) }
+{
+    pmap.master(page) != frame && pmap.replicas(page) == 0 && pmap.open_move(page).is_none()
+}
+
+/// Whether the guest surely holds no frame of this number: it has no spares, and each of its pages lacks it.
+fn is_foreign(course: &Course, frame: FrameNo) -> bool
+    ensures { OnTrue result ((target : Copy) → target.frame ≡ frame.0 → IsForeign (state_of course.now) target) }
+{
+    if course.pmap.spares() != 0 {
+        return false;
+    }
+    for page in 0..course.pmap.len() {
+        if !lacks(&course.pmap, Ppn(page), frame) {
+            return false;
+        }
+    }
+    true
+}
+
+/// Whether each page lies in a frame of the machine, of not more than eight nodes.
+fn are_within(course: &Course) -> bool
+    ensures { OnTrue result (AreWithin (state_of course.now)) }
+{
+    let shape = &course.around.site.shape;
+    let nodes = shape.cells.as_slice().len();
+    if nodes > 8 {
+        return false;
+    }
+    let frames = nodes as u64 * u64::from(shape.frames);
+    for page in 0..course.pmap.len() {
+        if u64::from(course.pmap.master(Ppn(page)).0) >= frames {
+            return false;
+        }
+    }
+    true
+}
+
+/// What goes on a wire.
+fn on_wire(out: &Outgoing) -> Sent {
+    let frame = match &out.packet.body {
+        Body::Whole(frame) => Some(frame.number),
+        Body::Plain(_) => None,
+    };
+    Sent {
+        frame,
+        length: out.packet.length,
+        first: out.packet.page().byte_at(0),
+    }
+}
+
+/// Makes the rest of a step, with what it sends. An error is want of memory, or a page outside the machine.
+fn make(alloc: Global, course: &mut Course, vcpu: VcpuId, act: DevAct) -> Result<Did, AllocError>
+    requires sound { IsSound course.old }
+    requires left { LeavesAct (state_of course.old) 0 vcpu.0 act (state_of course.old) }
+    requires free { ActIsFree (state_of course.old) vcpu.0 act }
+    requires send_room { 0 < course.old.devs.send_room }
+    requires cells { vec_len course.old.sent_from < vec_capacity course.old.sent_from }
+    ensures { IsSound course.new }
+{
+    if !are_within(course) || course.around.site.homes.len() > 256 {
+        return Err(AllocError);
+    }
+    let out = course.outgoing(alloc, vcpu, act)?;
+    course.carry_out(alloc, vcpu, act)?;
+    Ok(match out {
+        Some(out) => Did::Sent(on_wire(&out)),
+        None => Did::Emulated,
+    })
+}
+
+/// Begins to give the page from which an act sends, with the spare for it. An error is want of memory, or a guest that holds other frames
+/// than its pages'.
+fn give(
+    alloc: Global,
+    course: &mut Course,
+    vcpu: VcpuId,
+    act: DevAct,
+    page: Ppn,
+) -> Result<Did, AllocError>
+    requires sound { IsSound course.old }
+    requires left { LeavesAct (state_of course.old) 0 vcpu.0 act (state_of course.old) }
+    requires free { ActIsFree (state_of course.old) vcpu.0 act }
+    requires gives { to_give (state_of course.old) vcpu.0 act ≡ Some page.0 }
+    requires page { page.0 < length course.old.pmap.pages }
+    requires room { 0 < course.old.pmap.room }
+    ensures { IsSound course.new }
+{
+    if !is_foreign(course, SPARE) {
+        return Err(AllocError);
+    }
+    let spare = Frame {
+        number: SPARE,
+        generation: 1,
+        page: Page::zeroed(alloc)?,
+    };
+    course.begin_to_give(PROCESSOR, vcpu, act, page, spare);
+    Ok(Did::Begun(page, MoveKind::GiveShared))
+}
+
+/// Does what an act needs that no page is in the way of: its page is shared, or else the step is made.
+fn share_or_make(
+    alloc: Global,
+    course: &mut Course,
+    vcpu: VcpuId,
+    act: DevAct,
+) -> Result<Did, AllocError>
+    requires sound { IsSound course.old }
+    requires left { LeavesAct (state_of course.old) 0 vcpu.0 act (state_of course.old) }
+    requires free { ActIsFree (state_of course.old) vcpu.0 act }
+    requires send_room { 0 < course.old.devs.send_room }
+    requires cells { vec_len course.old.sent_from < vec_capacity course.old.sent_from }
+    requires room { 0 < course.old.pmap.room }
+    ensures { IsSound course.new }
+{
+    if let Some((block, page)) = course.to_share(vcpu, act) {
+        let frame = copy_of_block(alloc, course, block)?;
+        course.begin_for_block(PROCESSOR, vcpu, act, block, page, frame);
+        return Ok(Did::Begun(page, MoveKind::TakeShared));
+    }
+    match course.to_give(vcpu, act) {
+        Some(page) => give(alloc, course, vcpu, act, page),
+        None => make(alloc, course, vcpu, act),
+    }
+}
+
+/// Does what an act needs that was left.
+fn do_act(alloc: Global, course: &mut Course, vcpu: VcpuId, act: DevAct) -> Result<Did, AllocError>
+    requires sound { IsSound course.old }
+    requires left { LeavesAct (state_of course.old) 0 vcpu.0 act (state_of course.old) }
+    requires send_room { 0 < course.old.devs.send_room }
+    requires cells { vec_len course.old.sent_from < vec_capacity course.old.sent_from }
+    requires room { 0 < course.old.pmap.room }
+    ensures { IsSound course.new }
+{
+    match course.act_hurdle(vcpu, act) {
+        Hurdle::Free => share_or_make(alloc, course, vcpu, act),
+        Hurdle::Needs(page, kind) => {
+            course.begin_for_read(PROCESSOR, vcpu, act, page, kind);
+            Ok(Did::Begun(page, kind))
+        }
+        Hurdle::Waits(page) => {
+            if course.is_own_read(vcpu, act, page) {
+                let mut freed = course.end_read(vcpu, act, page);
+                Ok(Did::Took(page, freed.pop()))
+            } else {
+                Ok(Did::Waits(page))
+            }
+        }
+    }
+}
+
+/// The next entry of the virtual processor, or what it needs first.
+fn enter(alloc: Global, course: &mut Course, vcpu: VcpuId) -> Result<Did, AllocError>
+    requires sound { IsSound course.old }
+    requires may { MayStep (state_of course.old) 0 vcpu.0 }
+    requires print_room { 0 < course.old.devs.print_room }
+    requires send_room { 0 < course.old.devs.send_room }
+    requires cells { vec_len course.old.sent_from < vec_capacity course.old.sent_from }
+    requires room { 0 < course.old.pmap.room }
+    ensures { IsSound course.new }
+{
+    match course.step(PROCESSOR, vcpu) {
+        HwStep::Direct(_) => Ok(Did::Direct),
+        HwStep::Trap(cause) => match course.serve(PROCESSOR, vcpu, cause) {
+            Entry::Refill => Ok(Did::Refilled),
+            Entry::Emulate => Ok(Did::Emulated),
+            Entry::Left(act) => do_act(alloc, course, vcpu, act),
+            Entry::Waits(page) => Ok(Did::Waits(page)),
+            Entry::Needs(page, kind) => {
+                course.begin_needed(PROCESSOR, vcpu, page, kind);
+                Ok(Did::Begun(page, kind))
+            }
+        },
+    }
+}
+
+/// A turn of the virtual processor: what is to be done for moves first, and else its next entry.
+pub(crate) fn turn(alloc: Global, course: &mut Course, vcpu: VcpuId) -> Result<Did, AllocError>
+    requires sound { IsSound course.old }
+    requires processor { 0 < length course.old.places.items }
+    requires may { MayStep (state_of course.old) 0 vcpu.0 }
+    ensures { IsSound course.new }
+{
+    course.reserve()?;
+    match course.errand(PROCESSOR) {
+        Errand::Acknowledge(page) => {
+            course.acknowledge(PROCESSOR, page);
+            Ok(Did::Acknowledged(page))
+        }
+        Errand::Finish(page) => {
+            let mut freed = course.finish_move(page);
+            Ok(Did::Finished(page, freed.pop()))
+        }
+        Errand::Nothing => enter(alloc, course, vcpu),
+    }
+}
