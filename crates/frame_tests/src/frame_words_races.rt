@@ -1,5 +1,5 @@
 //! Four threads on one table, and what is left when all have given back what they had.
-ghost use Rattle.std.specs.Prelude.{◌≡◌, ◌<◌};
+ghost use Rattle.std.specs.Prelude.{◌≡◌, ◌<◌, [], length};
 ghost use Rattle.std.specs.Thread.{IsSync};
 ghost use Rattle.frame_words.specs.Holders.{IsMade, HasSame};
 
@@ -8,7 +8,7 @@ use frame_words::{
     Borrow, FrameTable, Holder, Share, Took, borrow, give_back, join as join_holders, repay, share,
     split, take,
 };
-use std::test::Fail;
+use std::alloc::{AllocError, Global};
 use std::thread::{Threads, join};
 
 const FRAMES: u32 = 64;
@@ -97,14 +97,14 @@ fn four_work<R: Threads + Sync>(
     two: Holder,
     three: Holder,
     four: Holder,
-) -> (Holder, Holder, Holder, Holder)
+) -> ((Holder, Holder), (Holder, Holder))
     requires first { IsMade table.now one × IsMade table.now two }
     requires second { IsMade table.now three × IsMade table.now four }
     requires table { (table.now.terms.frames ≡ FRAMES) }
-    ensures first { HasSame one result.0 × HasSame two result.1 }
-    ensures second { HasSame three result.2 × HasSame four result.3 }
+    ensures first { HasSame one result.0.0 × HasSame two result.0.1 }
+    ensures second { HasSame three result.1.0 × HasSame four result.1.1 }
 {
-    let ((one, two), (three, four)) = join(
+    join(
         rt,
         move || -> (Holder, Holder)
             requires { IsSync R.row × IsMade table.now one × IsMade table.now two × (table.now.terms.frames ≡ FRAMES) }
@@ -114,8 +114,7 @@ fn four_work<R: Threads + Sync>(
             requires { IsSync R.row × IsMade table.now three × IsMade table.now four × (table.now.terms.frames ≡ FRAMES) }
             ensures { HasSame three result.0 × HasSame four result.1 }
         { two_work(rt, table, three, four, 32) },
-    );
-    (one, two, three, four)
+    )
 }
 
 // How many frames nobody holds: each is taken.
@@ -132,22 +131,45 @@ fn free_frames(table: &FrameTable, holder: &mut Holder) -> u32
     free
 }
 
+// How many frames nobody holds, and what four calls for a loan answer.
+fn left(table: &FrameTable, last: &mut Holder) -> (u32, [Borrow; 4])
+    requires made { IsMade table.now last.old }
+    requires frames { table.now.terms.frames ≡ FRAMES }
+    requires cells { length table.now.terms.lends ≡ 1 }
+{
+    let free = free_frames(table, last);
+    let loans = [
+        borrow(table, last, CellId(0)),
+        borrow(table, last, CellId(0)),
+        borrow(table, last, CellId(0)),
+        borrow(table, last, CellId(0)),
+    ];
+    (free, loans)
+}
+
+// Another holder, which has nothing, of a table of one cell.
+fn another(alloc: Global, table: &FrameTable, one: &mut Holder) -> Holder
+    requires { IsMade table.now one.old }
+    ensures made { IsMade table.now one.new × IsMade table.now result }
+    ensures holds { (one.new.view.holds ≡ one.old.view.holds) × (result.view.holds ≡ []) }
+{
+    split(table, one, &FrameList::new(alloc), &[0])
+}
+
 #[test]
-fn four_threads_leave_all_words_free(rt: HostRuntime) -> Result<(), Fail> {
+fn four_threads_leave_all_words_free(rt: HostRuntime) -> Result<(), AllocError> {
     let (table, mut one) = FrameTable::new(rt.alloc(), FRAMES, &[3], 0)?;
-    let none = FrameList::new(rt.alloc());
-    let two = split(&table, &mut one, &none, &[0]);
-    let three = split(&table, &mut one, &none, &[0]);
-    let four = split(&table, &mut one, &none, &[0]);
-    let (one, two, three, four) = four_work(&rt, &table, one, two, three, four);
-    let mut last = one;
+    let two = another(rt.alloc(), &table, &mut one);
+    let three = another(rt.alloc(), &table, &mut one);
+    let four = another(rt.alloc(), &table, &mut one);
+    let ((mut last, two), (three, four)) = four_work(&rt, &table, one, two, three, four);
     join_holders(&table, &mut last, two);
     join_holders(&table, &mut last, three);
     join_holders(&table, &mut last, four);
-    assert_eq!(rt; free_frames(&table, &mut last), FRAMES);
-    assert_eq!(rt; borrow(&table, &mut last, CellId(0)), Borrow::Lent);
-    assert_eq!(rt; borrow(&table, &mut last, CellId(0)), Borrow::Lent);
-    assert_eq!(rt; borrow(&table, &mut last, CellId(0)), Borrow::Lent);
-    assert_eq!(rt; borrow(&table, &mut last, CellId(0)), Borrow::AtLimit(3));
+    let lent = Borrow::Lent;
+    assert_eq!(rt;
+        left(&table, &mut last),
+        (FRAMES, [lent, lent, lent, Borrow::AtLimit(3)])
+    );
     Ok(())
 }

@@ -12,6 +12,8 @@ mod node_frames_boots;
 #[cfg(test)]
 mod node_frames_searches;
 #[cfg(test)]
+mod shapes;
+#[cfg(test)]
 mod shootdown_notes;
 #[cfg(test)]
 mod shootdown_races;

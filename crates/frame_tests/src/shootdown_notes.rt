@@ -10,7 +10,8 @@ use base_words::{CellId, End, Event, GuestId, MoveKind, NodeId, Ppn, ProcId, Pro
 use shootdown::{
     GuestSeat, Note, ProcToken, SeatList, TokenList, Waiting, agree, close_notes, note, tokens,
 };
-use std::test::Fail;
+use std::alloc::AllocError;
+use std::process::Abort;
 
 // One note of each kind, of two processors with two guests.
 fn note_five(
@@ -42,19 +43,29 @@ fn note_five(
     note(zero, first, Note::Halted(VcpuId(1)));
 }
 
+// The numbers of two tokens and two seats.
+fn numbers(tokens: &[ProcToken], seats: &[GuestSeat]) -> Option<([ProcId; 2], [GuestId; 2])> {
+    let ([zero, one], [first, second]) = (tokens, seats) else {
+        return None;
+    };
+    Some((
+        [zero.number(), one.number()],
+        [first.number(), second.number()],
+    ))
+}
+
 #[test]
-fn two_processors_note_with_two_guests(rt: HostRuntime) -> Result<(), Fail> {
+fn two_processors_note_with_two_guests(rt: HostRuntime) -> Result<(), AllocError> {
     let (tokens, seats) = tokens(rt.alloc(), 2, 2)?;
     let mut tokens = tokens.into_vec();
     let mut seats = seats.into_vec();
+    let numbers = numbers(&tokens, &seats);
     let (Some(mut one), Some(mut zero)) = (tokens.pop(), tokens.pop()) else {
         panic!(rt; "there are two tokens")
     };
     let (Some(mut second), Some(mut first)) = (seats.pop(), seats.pop()) else {
         panic!(rt; "there are two seats")
     };
-    assert_eq!(rt; (zero.number(), one.number()), (ProcId(0), ProcId(1)));
-    assert_eq!(rt; (first.number(), second.number()), (GuestId(0), GuestId(1)));
     note_five(&mut zero, &mut one, &mut first, &mut second);
     agree(&mut zero, &mut first);
     tokens.push(zero)?;
@@ -62,6 +73,8 @@ fn two_processors_note_with_two_guests(rt: HostRuntime) -> Result<(), Fail> {
     seats.push(first)?;
     seats.push(second)?;
     close_notes(TokenList::from_vec(tokens), SeatList::from_vec(seats));
+    let (processors, guests) = ([ProcId(0), ProcId(1)], [GuestId(0), GuestId(1)]);
+    assert_eq!(rt; numbers, Some((processors, guests)));
     Ok(())
 }
 
@@ -79,8 +92,33 @@ fn set_of(processors: &[u8]) -> ProcSet {
 /// The processors asked, those that acknowledge, and those that are left.
 type WaitingRow = (&'static [u8], &'static [usize], &'static [u8]);
 
+// Those that are left of the processors asked, once some have acknowledged, each by its token.
+fn left_of(
+    rt: &impl Abort,
+    tokens: &mut [ProcToken],
+    asked: &[u8],
+    acknowledged: &[usize],
+) -> ProcSet {
+    let mut waiting = Waiting::ask(set_of(asked));
+    for processor in acknowledged {
+        let token = tokens.get_mut(*processor).expect(rt, "a token");
+        assert!(rt; token.number().0 < 16);
+        waiting.ack(token);
+    }
+    waiting.left()
+}
+
+// Each row by these tokens.
+fn wait(rt: &impl Abort, tokens: &mut [ProcToken], rows: &[WaitingRow]) {
+    for (asked, acknowledged, left) in rows {
+        assert_eq!(rt; left_of(rt, tokens, asked, acknowledged), set_of(left));
+    }
+}
+
 #[test]
-fn those_asked_less_those_that_acknowledged_are_left(rt: HostRuntime) -> Result<(), Fail> {
+fn those_asked_less_those_that_acknowledged_are_left(rt: HostRuntime) -> Result<(), AllocError> {
+    let (tokens, _) = tokens(rt.alloc(), 16, 1)?;
+    let mut tokens = tokens.into_vec();
     let rows: [WaitingRow; 5] = [
         (&[0, 3, 15], &[3], &[0, 15]),
         (&[0, 3, 15], &[15, 0, 3], &[]),
@@ -88,16 +126,6 @@ fn those_asked_less_those_that_acknowledged_are_left(rt: HostRuntime) -> Result<
         (&[4, 5], &[6], &[4, 5]), // not asked
         (&[], &[1], &[]),
     ];
-    let (tokens, _) = tokens(rt.alloc(), 16, 1)?;
-    let mut tokens = tokens.into_vec();
-    for (asked, acknowledged, left) in rows {
-        let mut waiting = Waiting::ask(set_of(asked));
-        for processor in acknowledged {
-            let token = tokens.get_mut(*processor).expect(&rt, "a token");
-            assert!(rt; token.number().0 < 16);
-            waiting.ack(token);
-        }
-        assert_eq!(rt; waiting.left(), set_of(left));
-    }
+    wait(&rt, &mut tokens, &rows);
     Ok(())
 }

@@ -9,7 +9,6 @@ use shootdown::{
 use std::alloc::{AllocError, Global};
 use std::marker::{Brand, PhantomData};
 use std::sync::{Mutex, Wait};
-use std::test::Fail;
 use std::thread;
 use std::thread::Threads;
 
@@ -128,7 +127,7 @@ fn race<N: OnBoard + Send + Sync, R: Threads + Wait + Sync>(
 }
 
 #[test]
-fn four_threads_note_with_three_guests(rt: HostRuntime) -> Result<(), Fail> {
+fn four_threads_note_with_three_guests(rt: HostRuntime) -> Result<(), AllocError> {
     let (tokens, seats) = tokens(rt.alloc(), 4, 3)?;
     race::<Brand, HostRuntime>(&rt, rt.alloc(), tokens, seats)?;
     Ok(())

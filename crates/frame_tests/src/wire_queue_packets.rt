@@ -6,11 +6,11 @@ ghost use Rattle.wire_queue.specs.Between.{Made, guest_count, line_between};
 ghost use Rattle.wire_queue.specs.PassLists.{IsListOf, sending_to, taking_from};
 ghost use Rattle.wire_queue.specs.declared.packet.WirePacket.{WirePacket};
 
-use base_words::{CellId, CellList, FrameNo, GuestId, Page, Shape, SharedFrame};
+use crate::shapes::{cells_of, shape_of};
+use base_words::{CellId, FrameNo, GuestId, Page, SharedFrame};
 use std::alloc::{AllocError, Global};
 use std::process::Abort;
 use std::sync::{Arc, Wait};
-use std::test::Fail;
 use wire_queue::{AllPasses, Body, PassList, Sent, WirePacket, Wires, each_guest_has_its_list};
 
 /// The wires between two guests that live on cell 0, of two nodes of 16 frames, one a cell; and the two lists of passes.
@@ -25,12 +25,8 @@ pub fn two_guests(alloc: Global) -> Result<(Wires, PassList, PassList), AllocErr
     ensures second { IfOk result (λ made. IsListOf made.0 made.2 × (made.2.guest.0 ≡ 1) × IsSome (taking_from made.2 0)) }
 {
     each_guest_has_its_list();
-    let shape = Shape {
-        nodes: 2,
-        frames: 16,
-        cells: CellList::from_vec(vec![in alloc; CellId(0), CellId(1)]?),
-    };
-    let homes = CellList::from_vec(vec![in alloc; CellId(0), CellId(0)]?);
+    let shape = shape_of(alloc, 16, &[CellId(0), CellId(1)])?;
+    let homes = cells_of(alloc, &[CellId(0), CellId(0)])?;
     let (wires, passes) = Wires::new(alloc, 2, &shape, &homes)?;
     let mut lists = passes.into_vec();
     let second = lists.remove(1);
@@ -111,24 +107,47 @@ pub fn end(alloc: Global, wires: Wires, first: PassList, second: PassList) -> Re
     requires first { IsListOf wires first × (first.guest.0 ≡ 0) }
     requires second { IsListOf wires second × (second.guest.0 ≡ 1) }
 {
-    let lists = vec![in alloc; first, second]?;
+    let mut lists = Vec::new(alloc);
+    lists.push(first)?;
+    lists.push(second)?;
     wires.close(AllPasses::from_vec(lists));
     Ok(())
 }
 
-#[test]
-fn the_65th_packet_is_refused(rt: HostRuntime) -> Result<(), Fail> {
-    let (wires, mut first, mut second) = two_guests(rt.alloc())?;
-    assert_eq!(rt; accepted(&rt, rt.alloc(), &wires, &mut first, 64)?, 64);
-    let last = numbered(rt.alloc(), 64)?;
-    let Sent::Full(back) = send(&rt, &wires, &mut first, last) else {
+/// How many of 64 packets the wire accepts, and the number of the next one, which comes back.
+fn filled<R: Abort + Wait>(
+    rt: &R,
+    alloc: Global,
+    wires: &Wires,
+    first: &mut PassList,
+) -> Result<(u32, u32), AllocError>
+    requires first { IsListOf wires.now first.old × (first.old.guest.0 ≡ 0) × IsSome (sending_to first.old 1) }
+    ensures first { IsListOf wires.now first.new × (first.new.guest.0 ≡ 0) × IsSome (sending_to first.new 1) }
+{
+    let accepted = accepted(rt, alloc, wires, first, 64)?;
+    let last = numbered(alloc, 64)?;
+    let Sent::Full(back) = send(rt, wires, first, last) else {
         panic!(rt; "64 stand on the wire")
     };
-    assert_eq!(rt; back.page().word_at(0), 64);
-    assert!(rt; !second.has_taken(&rt, &wires, &mut first));
-    assert_eq!(rt; taken(&rt, &wires, &mut second), 64);
-    assert_eq!(rt; take(&rt, &wires, &mut second), None);
+    Ok((accepted, back.page().word_at(0)))
+}
+
+/// How many packets stand on the wire in order, and the number of one more, if there is one.
+fn emptied<R: Wait>(rt: &R, wires: &Wires, second: &mut PassList) -> (u32, Option<u32>)
+    requires second { IsListOf wires.now second.old × (second.old.guest.0 ≡ 1) × IsSome (taking_from second.old 0) }
+    ensures second { IsListOf wires.now second.new × (second.new.guest.0 ≡ 1) × IsSome (taking_from second.new 0) }
+{
+    (taken(rt, wires, second), take(rt, wires, second))
+}
+
+#[test]
+fn the_65th_packet_is_refused(rt: HostRuntime) -> Result<(), AllocError> {
+    let (wires, mut first, mut second) = two_guests(rt.alloc())?;
+    let filled = filled(&rt, rt.alloc(), &wires, &mut first)?;
+    let has_taken = second.has_taken(&rt, &wires, &mut first);
+    let emptied = emptied(&rt, &wires, &mut second);
     end(rt.alloc(), wires, first, second)?;
+    assert_eq!(rt; (filled, has_taken, emptied), ((64, 64), false, (64, None)));
     Ok(())
 }
 
@@ -178,7 +197,7 @@ fn is_copy(rt: &impl Abort, packet: &WirePacket, number: u32) {
 }
 
 #[test]
-fn a_whole_page_and_a_copy_go_in_order(rt: HostRuntime) -> Result<(), Fail> {
+fn a_whole_page_and_a_copy_go_in_order(rt: HostRuntime) -> Result<(), AllocError> {
     let (wires, mut first, mut second) = two_guests(rt.alloc())?;
     let packet = whole(rt.alloc(), 5)?;
     assert!(rt; matches!(send(&rt, &wires, &mut first, packet), Sent::Ok));

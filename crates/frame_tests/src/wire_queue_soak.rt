@@ -8,7 +8,6 @@ ghost use Rattle.wire_queue.specs.PassLists.{IsListOf, sending_to, taking_from};
 use crate::wire_queue_packets::{end, numbered, send, take, two_guests};
 use std::alloc::{AllocError, Global};
 use std::sync::Wait;
-use std::test::Fail;
 use std::thread;
 use std::thread::{Threads, join};
 use wire_queue::{PassList, Sent, WirePacket, Wires};
@@ -96,7 +95,7 @@ fn exchange<R: Threads + Wait + Sync>(
 }
 
 #[test]
-fn all_packets_come_in_order(rt: HostRuntime) -> Result<(), Fail> {
+fn all_packets_come_in_order(rt: HostRuntime) -> Result<(), AllocError> {
     let (wires, first, second) = two_guests(rt.alloc())?;
     let (mut first, mut second, count) = exchange(&rt, rt.alloc(), &wires, first, second)?;
     assert_eq!(rt; count, PACKETS);

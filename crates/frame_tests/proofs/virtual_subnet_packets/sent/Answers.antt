@@ -1,19 +1,18 @@
-use Rattle.std.proofs.Common.{◌≡◌, ℕ, ◌*◌, ◌<◌, length, sym, subst, arith}
+use Rattle.std.proofs.Common.{◌≡◌, ◌*◌, ◌<◌, length, sym, subst, arith}
 use Rattle.wire_queue.specs.Between.{line_between}
 use Rattle.wire_queue.specs.Packets.{packet_of}
 use Rattle.wire_queue.specs.declared.terms.Terms.{Terms}
-use Rattle.frame_tests.proofs.virtual_subnet_packets.a_page_that_was_sent_is_remapped.Goals as goal
+use Rattle.frame_tests.proofs.virtual_subnet_packets.sent.Goals as goal
 
 -- the packet goes on the wire from guest 0 to guest 1
 pub carried-requires-clause-fits : goal.carried-requires-clause-fits
 carried-requires-clause-fits g c = c.in_ok-offered.ensures.fits c.in_ok-wires.wires c.in_ok-wires.ensures.terms
 
--- its frame is one of the table's
-pub accept-requires-clause-within : goal.accept-requires-clause-within
-accept-requires-clause-within g c = λ handed is.
+-- its frame is one of the machine's
+pub returns : goal.returns
+returns g c = λ handed is.
     let wires = c.in_ok-wires.wires in
     let terms = c.in_ok-wires.ensures.terms in
     let some : 0 < wires.terms.frames = subst (λ (t : Terms). 0 < t.frames) (sym terms) (omega arith) in
     let below : handed.frame < length wires.terms.cells * wires.terms.frames = c.frames_on_wires.ensures (line_between wires 0 1) (packet_of c.in-Some.taken) some c.in-Some.ensures.fits handed is in
-    let few : handed.frame < 32 = subst (λ (t : Terms). handed.frame < length t.cells * t.frames) terms below in
-    subst (λ (n : ℕ). handed.frame < n) (sym c.in_ok-table.ensures.terms.0) few
+    subst (λ (t : Terms). handed.frame < length t.cells * t.frames) terms below
