@@ -11,10 +11,10 @@ from __future__ import annotations
 
 import sys
 
-from rows import blocks, handing_on, moving, packets
+from rows import blocks, failing, handing_on, moving, packets
 from rows.reading import Row, printed
 
-TABLES = (moving.MOVES, moving.POLICIES, packets.PACKETS, blocks.BLOCKS, handing_on.HANDED_ON)
+TABLES = (moving.MOVES, moving.POLICIES, packets.PACKETS, blocks.BLOCKS, handing_on.HANDED_ON, failing.FAILURES)
 
 
 def differs(row: Row) -> bool:

@@ -14,11 +14,11 @@ from collections.abc import Callable
 from random import Random
 
 from generator.assembler import KERNEL
-from reference import Ask, Collapse, DiskFile, Input, Machine, Migrate, Monitor, Policy, Replicate, Run, Start
+from reference import Ask, Collapse, DiskFile, Fail, Input, Machine, Migrate, Monitor, Policy, Replicate, Run, Start
 from reference.audit import Audit
 from reference.host import Answer, Seat
 from reference.moves import Kind
-from rows.programs import COUNTS, READS_A_BLOCK, SENDS_A_PAGE
+from rows.programs import COUNTS, PRINTS_A, READS_A_BLOCK, SENDS_A_PAGE
 from rows.writing import listing
 
 BLOCK = b"a".rjust(4, b"\0").ljust(4096, b"\0")
@@ -374,6 +374,70 @@ def a_processor_that_does_nothing_is_waited_for() -> None:
     pair.close()
 
 
+class Prints:
+    """Two guests that print, at home in cell 0, and processors 0 and 1 of cells 0 and 1; guest 0 is loaded on one."""
+
+    def __init__(self, processor: int) -> None:
+        machine = Machine([[0], [1]], 16, [0, 0], [0, 1], lends=[0, 4])
+        self.monitor = Monitor([Start(PRINTS_A, KERNEL, 4, 1)] * 2, [0, 0], machine, Policy())
+        self.audit = Audit(self.monitor)
+        self.guest = self.monitor.guests[0]
+        self.seat = self.guest.host.load(processor, 0)
+
+    def expect(self, *answers: Answer) -> None:
+        for answer in answers:
+            assert self.guest.turn(self.seat) is answer
+            self.monitor.watch(self.guest, self.seat, answer)
+
+    def fail(self) -> None:
+        """Cell 1 fails."""
+        assert list(self.monitor.fail(Fail(0, 1))) == [Answer.CELL_FAILED] * 2
+        self.audit.look_at_guest(self.guest)
+        self.audit.look_at_frames()
+
+    def close(self, killer: int | None) -> None:
+        """Guest 0 has ended so, and guest 1 by the end of the plan."""
+        self.guest.host.unload(self.seat)
+        self.monitor.close()
+        assert [monitored.killer for monitored in self.monitor.guests] == [killer, None]
+        self.audit.look_at_end()
+
+
+def a_guest_ends_that_is_loaded_in_the_cell() -> None:
+    """All its frames lie in cell 0, and it has made its first step."""
+    prints = Prints(processor=1)
+    prints.expect(Answer.REFILLED, Answer.STEPPED)
+    prints.fail()
+    prints.expect(Answer.ENDED)
+    assert prints.guest.steps == 1
+    prints.close(killer=1)
+
+
+def a_guest_goes_on_that_was_loaded_in_the_cell_before() -> None:
+    """It makes its last steps on processor 0, and on processor 1 none any more."""
+    prints = Prints(processor=1)
+    prints.expect(Answer.REFILLED, Answer.STEPPED)
+    prints.guest.host.unload(prints.seat)
+    prints.fail()
+    assert not list(prints.monitor.run(Run(0, 0, 5, 1)))
+    prints.seat = prints.guest.host.load(0, 0)
+    prints.expect(Answer.REFILLED, *[Answer.STEPPED] * 4, Answer.ENDED)
+    prints.close(killer=None)
+
+
+def a_guest_ends_whose_page_is_about_to_move_there() -> None:
+    """The frame is held from the move's begin on, though the page is copied only once processor 0 has dropped it."""
+    prints = Prints(processor=0)
+    prints.expect(Answer.REFILLED, Answer.STEPPED)
+    asked = prints.monitor.ask(Ask(1, 0, Migrate(0, 1)))
+    assert next(asked) is Answer.WAITS and prints.monitor.frames.loans == [0, 1]
+    prints.fail()
+    assert not list(asked) and prints.monitor.frames.loans == [0, 0]
+    assert not prints.guest.host.pages.moves and not prints.guest.host.pages.skips
+    prints.expect(Answer.ENDED)
+    prints.close(killer=1)
+
+
 def two_virtual_processors_count_while_their_page_moves() -> None:
     """In any order of turns none of the thousand additions of each is lost."""
     runs = [Run(0, number, 100_000, number) for number in range(2)]
@@ -423,6 +487,9 @@ TURNS: list[Callable[[], None]] = [
     a_packet_is_taken_by_a_halted_virtual_processors_turn,
     input_joins_with_the_step,
     a_processor_that_does_nothing_is_waited_for,
+    a_guest_ends_that_is_loaded_in_the_cell,
+    a_guest_goes_on_that_was_loaded_in_the_cell_before,
+    a_guest_ends_whose_page_is_about_to_move_there,
     two_virtual_processors_count_while_their_page_moves,
     a_read_into_the_page_of_its_own_instruction_is_copied,
 ]

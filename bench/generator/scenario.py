@@ -3,12 +3,28 @@
 from __future__ import annotations
 
 import struct
+from collections.abc import Sequence
 from dataclasses import dataclass, field
 from random import Random
 
-from reference import Ask, Collapse, DiskFile, Input, Item, Machine, Migrate, PageMove, Policy, Replicate, Run, Start
+from reference import (
+    Ask,
+    Collapse,
+    DiskFile,
+    Fail,
+    Input,
+    Item,
+    Machine,
+    Migrate,
+    PageMove,
+    Policy,
+    Replicate,
+    Run,
+    Start,
+)
 from reference.cache import Cache
 from reference.frames import AdmissionFault, Frames, Holder
+from reference.plan import processor_of
 
 from .assembler import KERNEL
 from .kernel import PROGRAM
@@ -45,13 +61,21 @@ class Scenario:
         return ("\n".join(self.lines) + "\n").encode()
 
 
-def scenario(seed: int, sharing: float = 0) -> Scenario:
-    """The run of a seed. So many of all are runs in which blocks and pages are shared, from none (0) to each (1)."""
-    random = Random(seed)
-    return sharing_run(Random(f"shares {seed}")) if sharing and Random(f"kind {seed}").random() < sharing else any_run(random)
+def scenario(seed: int, sharing: float = 0, failing: float = 0) -> Scenario:
+    """The run of a seed. In so many of all, from none (0) to each (1), guests share, and in so many cells fail."""
+    failures = Random(f"fails {seed}")
+    fails = failures.random() < failing
+    if sharing and Random(f"kind {seed}").random() < sharing:
+        made = sharing_run(Random(f"shares {seed}"), fails)
+    else:
+        made = any_run(Random(seed), fails)
+    if fails:
+        put_failures(made, failures)
+    put_items(made)
+    return made
 
 
-def any_run(random: Random) -> Scenario:
+def any_run(random: Random, fails: bool) -> Scenario:
     """Either all guests share a processor, and may send to each other, or each has its own or shares it with some."""
     made = Scenario()
     made.files = {name: disk(random, random.choice(sizes)) for name, sizes in DISKS.items()}
@@ -60,7 +84,7 @@ def any_run(random: Random) -> Scenario:
     processors = 1 if together else random.randrange(1, 5)
     made.hosts = [random.randrange(processors) for _ in range(guests)]
     traits = [guest_traits(random, guests, together) for _ in range(guests)]
-    put_machine(made, random, processors, sum(each.pages for each in traits))
+    put_machine(made, random, processors, sum(each.pages for each in traits), fails)
     for number, each in enumerate(traits):
         put_guest(made, random, number, each)
     put_policy(made, random)
@@ -68,7 +92,7 @@ def any_run(random: Random) -> Scenario:
     return made
 
 
-def sharing_run(random: Random) -> Scenario:
+def sharing_run(random: Random, fails: bool) -> Scenario:
     """Few frames are left, few blocks are read, and pages are sent whole. Mostly all guests share a processor."""
     made = Scenario()
     made.files = {name: disk(random, random.choice(sizes)) for name, sizes in SHARED_DISKS.items()}
@@ -77,7 +101,7 @@ def sharing_run(random: Random) -> Scenario:
     processors = 1 if together else random.randrange(2, 4)
     made.hosts = [random.randrange(processors) for _ in range(guests)]
     traits = [sharing_traits(random, guests, together) for _ in range(guests)]
-    put_tight_machine(made, random, processors, traits)
+    put_tight_machine(made, random, processors, traits, fails)
     for number, each in enumerate(traits):
         put_guest(made, random, number, each)
     put_policy(made, random)
@@ -97,9 +121,12 @@ def sharing_traits(random: Random, guests: int, together: bool) -> Traits:
     )
 
 
-def put_tight_machine(made: Scenario, random: Random, processors: int, traits: list[Traits]) -> None:
-    """Nodes with room for caches and pages, and a few frames more. Cells lend nothing, a few frames, or all that they have."""
-    nodes = random.choice((1, 1, 2, 3, 4))
+def put_tight_machine(made: Scenario, random: Random, processors: int, traits: list[Traits], fails: bool) -> None:
+    """Nodes with room for caches and pages, and a few frames more. Cells lend nothing, a few frames, or all of theirs.
+
+    Where cells fail there are mostly several.
+    """
+    nodes = random.choice((1, 2, 3, 4, 4) if fails else (1, 1, 2, 3, 4))
     made.processors = [random.randrange(nodes) for _ in range(processors)]
     made.homes = [random.randrange(nodes) for _ in traits]
     made.cache = random.choice((0, 1, 1, 2, 3, 4, 6))
@@ -150,14 +177,17 @@ def guest_traits(random: Random, guests: int, together: bool) -> Traits:
     )
 
 
-def put_machine(made: Scenario, random: Random, processors: int, pages: int) -> None:
-    """Nodes and cells with room for all pages, or with far more; each cell lends as much as it has."""
+def put_machine(made: Scenario, random: Random, processors: int, pages: int, fails: bool) -> None:
+    """Nodes and cells with room for all pages, or with far more; each cell lends as much as it has.
+
+    Where a cell fails there are two of them, if there are so many nodes.
+    """
     nodes = random.choice((1, 2, 2, 3, 4, 8))
     made.frames = random.choice((-(-pages // nodes), 2 * pages)) + random.choice((0, 1, 7, 20))
     made.processors = [random.randrange(nodes) for _ in range(processors)]
     made.lines += ["[machine]", f"nodes = {nodes}", f"frames = {made.frames}", f"processors = {made.processors}"]
     made.cells = [list(range(nodes))]
-    if nodes > 1 and random.random() < 0.5:
+    if nodes > 1 and (random.random() < 0.5 or fails):
         made.cells = [list(range(nodes - 1)), [nodes - 1]]
         made.lends = [made.frames * nodes] * 2
         for cell in made.cells:
@@ -213,18 +243,38 @@ def policy_lines(policy: Policy) -> list[str]:
 
 
 def put_work(made: Scenario, random: Random, traits: list[Traits], together: bool) -> None:
-    """The runs of all guests and the moves of their pages, mixed, and then the input."""
+    """The runs of all guests and the moves of their pages, mixed."""
     runs = [guest_items(random, number, each, together) for number, each in enumerate(traits)]
     asks = guest_asks(made, random, traits)
     items: list[list[Item]] = [with_asks(random, each, asked) for each, asked in zip(runs, asks, strict=True)]
     waiting = [number for number, each in enumerate(items) for _ in each]
     random.shuffle(waiting)
     made.plan = [items[number].pop(0) for number in waiting]
+
+
+def put_failures(made: Scenario, random: Random) -> None:
+    """One or two cells fail, at any places of the plan, through any processors."""
+    for cell in random.sample(range(len(made.cells)), min(random.choice((1, 1, 2)), len(made.cells))):
+        made.plan.insert(random.randrange(len(made.plan) + 1), Fail(random.randrange(len(made.processors)), cell))
+
+
+def put_items(made: Scenario) -> None:
+    """The lines of the plan, and of the input."""
     for item in made.plan:
-        made.lines += ask_lines(item) if isinstance(item, Ask) else run_lines(item, made.hosts[item.guest])
+        made.lines += item_lines(item, made.hosts)
     for number, start in enumerate(made.starts):
         for entry in start.inputs:
             made.lines += ["[[input]]", f"guest = {number}", f"at = {entry.at}", f'text = "{entry.text.decode()}"']
+
+
+def item_lines(item: Item, hosts: Sequence[int]) -> list[str]:
+    match item:
+        case Run():
+            return run_lines(item, processor_of(item, hosts))
+        case Ask():
+            return ask_lines(item)
+        case Fail():
+            return ["[[work]]", 'act = "fail"', f"processor = {item.asker}", f"cell = {item.cell}"]
 
 
 def run_lines(run: Run, host: int) -> list[str]:

@@ -9,7 +9,7 @@ from .machine import Coverage, Guest, Start, Watcher
 from .monitor import Monitor, NeverGoesOn, private_report
 from .moves import Collapse, Migrate, PageMove, Policy, Replicate
 from .openness import Openness
-from .plan import Ask, Item, Run
+from .plan import Ask, Fail, Item, Run
 
 __all__ = [
     "AdmissionFault",
@@ -17,6 +17,7 @@ __all__ = [
     "Collapse",
     "Coverage",
     "DiskFile",
+    "Fail",
     "Guest",
     "Input",
     "Item",

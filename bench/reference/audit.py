@@ -78,6 +78,7 @@ class Audit:
         assert host.pages.moving == {number for number, page in enumerate(host.pages.pages) if page.move is not None}
         unbroken = sum(page.is_shared and not is_moving(page, Kind.BREAK) for page in host.pages.pages)
         assert len(host.pages.spares) >= unbroken
+        assert not any(host.uses(cell) for cell in host.dead)
         for seat in host.seats.values():
             look_at_seat(host, seat, monitored.guest.processors[seat.loaded])
 

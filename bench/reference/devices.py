@@ -56,6 +56,7 @@ class Packet:
     receiver: int
     data: bytes
     frame: Frame | None = None
+    cell: int | None = None  # in which the page's frame lay then
 
 
 class Devices:
@@ -186,7 +187,8 @@ class Devices:
         page, length = processor.transfer.send_page, processor.transfer.send_length
         if page < self.guest.pages and 1 <= length <= PAGE:
             frame = self.guest.watcher.page_goes(processor, page, length, value)
-            self.sent.append(Packet(value, self.guest.page(page)[:length], frame))
+            cell = self.guest.watcher.cell_of_page(page)
+            self.sent.append(Packet(value, self.guest.page(page)[:length], frame, cell))
 
     def arm(self, processor: VirtualProcessor, value: int) -> None:
         """The next packet comes into that page; a number of no page disarms."""

@@ -30,8 +30,10 @@ class Answer(Enum):
     SKIPPED = auto()
     BUSY = auto()
     DELIVERED = auto()
+    DISCARDED = auto()
     NONE_IN_HAND = auto()
     NOT_ARMED = auto()
+    CELL_FAILED = auto()  # for the guest
 
 
 class PutOff(StepPutOff):
@@ -67,6 +69,7 @@ class Host(Watcher):
         self.policy = policy
         self.blocks = blocks  # of the guest's disk that its home cell keeps
         self.hands_on = hands_on  # whole pages; else each packet is copied
+        self.dead = set[int]()  # the cells that have failed
         self.seats: dict[int, Seat] = {}  # by the processor's number
         self.seat: Seat | None = None  # whose step is made
         self.refills = 0
@@ -86,6 +89,25 @@ class Host(Watcher):
         for number in range(len(self.pages.pages)):
             self.pages.leave(number, seat.processor)
         del self.seats[seat.processor]
+
+    # cells that fail
+
+    def uses(self, cell: int) -> bool:
+        """Whether a frame that the guest holds lies in a cell, or one of its virtual processors is loaded there."""
+        nodes = self.machine.cells[cell]
+        is_held = any(frame.node in nodes for frame in self.pages.held())
+        return is_held or any(seat.node in nodes for seat in self.seats.values())
+
+    def is_dead(self, node: int) -> bool:
+        """Whether the cell of a node has failed."""
+        return self.machine.cell_of(node) in self.dead
+
+    def is_dead_processor(self, processor: int) -> bool:
+        return self.is_dead(self.machine.processors[processor])
+
+    def spare_order(self) -> list[int]:
+        """The nodes of a boot in their order, without those of cells that have failed."""
+        return [node for node in self.machine.boot_order(self.machine.homes[self.number]) if not self.is_dead(node)]
 
     # what a step reaches
 
@@ -155,9 +177,9 @@ class Host(Watcher):
     # what a step brings and sends
 
     def block_comes(self, processor: VirtualProcessor, page: int, block: int, is_own: bool) -> None:
-        """A block that the guest has written is copied, and so is one that the home cell doesn't keep, or that comes into the
-        page of the read's own instruction, which could never be made while the page has a move."""
-        is_copied = is_own or page == self.seat.code
+        """Why a block is copied: the guest has written it; or its home cell doesn't keep it, or has failed; or it comes
+        into the page of the read's own instruction, which could never be made while the page has a move."""
+        is_copied = is_own or page == self.seat.code or self.machine.home_cell(self.number) in self.dead
         frame = None if is_copied else self.blocks.get(block)
         answer = self.make_way(page, frame, None if is_copied else BlockRead(processor.number, block))
         if answer is not None:
@@ -194,7 +216,7 @@ class Host(Watcher):
             return None
         if self.pages[page].is_shared:
             return self.pages[page].master
-        target = self.pages.holder.find(self.machine.boot_order(self.machine.homes[self.number]))
+        target = self.pages.holder.find(self.spare_order())
         if target is None:
             self.sends_without_frame += 1
             return None
@@ -205,18 +227,21 @@ class Host(Watcher):
         """Whether the receiver is another guest that is there, on whose home cell the page's frame lies."""
         if receiver == self.number or receiver >= len(self.machine.homes):
             return False
-        return self.machine.cell_of(self.pages[page].master.node) == self.machine.home_cell(receiver)
+        return self.cell_of_page(page) == self.machine.home_cell(receiver)
+
+    def cell_of_page(self, page: int) -> int:
+        return self.machine.cell_of(self.pages[page].master.node)
 
     # moves of pages
 
-    def ask(self, move: PageMove) -> Answer:
-        """The plan or the policy asks for a move."""
+    def ask(self, asker: int, move: PageMove) -> Answer:
+        """The plan or the policy asks for a move through a processor."""
         if self.pages.has_ended():
             return self.skip(move.page, Cause.ENDED)
         page = self.pages[move.page]
         if page.move is not None:
             return Answer.BUSY
-        cause = page.cause_against(move)
+        cause = Cause.DEAD_CELL if self.meets_dead_cell(asker, move) else page.cause_against(move)
         if cause is not None:
             return self.skip(move.page, cause)
         target = self.pages.target_of(move)
@@ -224,6 +249,10 @@ class Host(Watcher):
             return self.skip(move.page, Cause.NO_FRAME)
         self.begin(move.page, move.kind, target)
         return Answer.BEGUN
+
+    def meets_dead_cell(self, asker: int, move: PageMove) -> bool:
+        """Whether the cell of the processor that asks has failed, or that of the node on which a frame is sought."""
+        return self.is_dead_processor(asker) or not isinstance(move, Collapse) and self.is_dead(move.node)
 
     def skip(self, number: int, cause: Cause) -> Answer:
         self.pages.skip(number, cause)

@@ -57,6 +57,10 @@ class Watcher:
         """It is about to send so much of this page to a guest of that number. The frame with which all of it can be handed on."""
         return None
 
+    def cell_of_page(self, page: int) -> int | None:
+        """The cell in which a page lies. A guest alone has none."""
+        return None
+
     def tlb_written(self, processor: VirtualProcessor, old: Entry, new: Entry) -> None:
         """An entry of its TLB is replaced."""
 

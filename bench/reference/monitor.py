@@ -16,9 +16,9 @@ from .host import Answer, Host, Seat
 from .machine import Coverage, Guest, Start, Watcher
 from .monitored import Monitored
 from .moves import Policy
-from .openness import Openness, openness
+from .openness import Openness, acting, openness
 from .pages import Pages
-from .plan import Ask, Item, Run, processor_of
+from .plan import Ask, Fail, Item, Run, processor_of
 from .wires import Wires
 
 MOST_TURNS = 100  # without a step, where nobody else takes any
@@ -55,7 +55,8 @@ class Monitor:
             cache.keep(blocks_at_home(at_home, numbers))
         self.guests = [self.booted(number, start, numbers) for number, start in enumerate(starts)]
         self.is_open = False  # whether another run of the same plan may print something else
-        self.openness: list[Openness] = []  # of the sums
+        self.openness: list[Openness] = []  # of each guest
+        self.failing: list[int] = []  # the cells, in the order of the plan
         self.watch: Watch = lambda monitored, seat, answer: None  # is told of each turn
 
     def booted(self, number: int, start: Start, disks: dict[str, int]) -> Monitored:
@@ -72,22 +73,33 @@ class Monitor:
     # a plan
 
     def carry_out(self, plan: Sequence[Item]) -> None:
-        self.openness = openness(self.machine, self.policy, plan, self.hosts, self.starts)
+        self.failing = failing_cells(plan)
+        boots = [{page.master.node for page in monitored.host.pages.pages} for monitored in self.guests]
+        self.openness = openness(self.machine, self.policy, plan, self.hosts, self.starts, boots)
         for item in plan:
             for answer in self.item(item):
                 if answer is Answer.WAITS:
                     raise NeverGoesOn(f"{item} waits for a processor that does nothing")
         self.close()
-        self.is_open = any(monitored.was_armed and self.has_foreign_packets(monitored.number) for monitored in self.guests)
+        is_met = any(monitored.was_armed and self.has_foreign_packets(monitored.number) for monitored in self.guests)
+        fails_aside = bool(self.failing) and len(acting(plan, self.hosts)) > 1
+        self.is_open = is_met or fails_aside and self.have_packets_alone(plan)
 
     def has_foreign_packets(self, receiver: int) -> bool:
         """Whether a guest of another processor has sent it something."""
         senders = [monitored for monitored in self.guests if self.hosts[monitored.number] != self.hosts[receiver]]
         return any(packet.receiver == receiver for monitored in senders for packet in monitored.guest.devices.sent)
 
+    def have_packets_alone(self, plan: Iterable[Item]) -> bool:
+        """Whether the guests, each alone, send to each other. Else none does where failures end some earlier."""
+        others = [set(range(len(self.starts))) - {number} for number in range(len(self.starts))]
+        alone = zip(private_guests(self.starts, plan), others, strict=True)
+        return any(packet.receiver in there for guest, there in alone for packet in guest.devices.sent)
+
     def carry_out_mixed(self, plan: Sequence[Item], random: Random) -> None:
         """Each processor has its items in order, and each turn is one of any processor that has some left."""
         self.is_open = True
+        self.failing = failing_cells(plan)
         work = {processor: self.items(processor, plan) for processor in range(len(self.machine.processors))}
         while work:
             processor = random.choice(list(work))
@@ -102,15 +114,27 @@ class Monitor:
 
     def item(self, item: Item) -> Iterator[Answer]:
         """An item turn by turn."""
-        return self.ask(item) if isinstance(item, Ask) else self.run(item)
+        match item:
+            case Run():
+                return self.run(item)
+            case Ask():
+                return self.ask(item)
+            case Fail():
+                return self.fail(item)
+
+    def fail(self, item: Fail) -> Iterator[Answer]:
+        """The cell fails for each guest in order."""
+        for monitored in self.guests:
+            yield monitored.cell_fails(item.cell)
 
     def run(self, item: Run) -> Iterator[Answer]:
-        monitored = self.guests[item.guest]
-        while monitored.is_loaded(item.processor) and not monitored.has_ended:
+        """A guest that has ended, or for which the processor's cell has failed, makes no steps."""
+        monitored, processor = self.guests[item.guest], processor_of(item, self.hosts)
+        while monitored.may_be_loaded(processor) and monitored.is_loaded(item.processor):
             yield Answer.WAITS
-        if monitored.has_ended:
+        if not monitored.may_be_loaded(processor):
             return
-        seat = monitored.host.load(processor_of(item, self.hosts), item.processor)
+        seat = monitored.host.load(processor, item.processor)
         steps, idle = 0, 0
         while steps < item.steps:
             answer = monitored.turn(seat)
@@ -126,7 +150,7 @@ class Monitor:
     def ask(self, item: Ask) -> Iterator[Answer]:
         """Asks until the move begins or is skipped, and waits for its end."""
         host, page = self.guests[item.guest].host, item.move.page
-        while (answer := host.ask(item.move)) is Answer.BUSY:
+        while (answer := host.ask(item.asker, item.move)) is Answer.BUSY:
             yield host.finish_ready(page)
         move = None if answer is Answer.SKIPPED else host.pages[page].move
         while move is not None and not host.pages.has_ended() and host.pages[page].move is move:
@@ -150,7 +174,13 @@ class Monitor:
         return b"".join(report_of(number, monitored.guest) for number, monitored in enumerate(self.guests))
 
     def report(self) -> bytes:
-        return b"".join(report_of(number, monitored.guest) + sums_of(monitored) for number, monitored in enumerate(self.guests))
+        guests = [report_of(number, each.guest, each.killer) + sums_of(each) for number, each in enumerate(self.guests)]
+        return b"".join((*guests, *map(self.failure_line, self.failing)))
+
+    def failure_line(self, cell: int) -> bytes:
+        """Which guests a failure ended."""
+        ended = [str(number) for number, monitored in enumerate(self.guests) if monitored.killer == cell]
+        return f"failure cell {cell} ended {' '.join(ended) or 'none'}\n".encode()
 
     def coverage(self) -> Coverage:
         total = Coverage.none()
@@ -159,10 +189,14 @@ class Monitor:
         return total
 
 
-def report_of(number: int, guest: Guest) -> bytes:
-    """What a report says of a guest: what it printed, and how it ended."""
+def failing_cells(plan: Iterable[Item]) -> list[int]:
+    return [item.cell for item in plan if isinstance(item, Fail)]
+
+
+def report_of(number: int, guest: Guest, killer: int | None = None) -> bytes:
+    """What a report says of a guest: what it printed, and how it ended, by the failure of a cell if one is named."""
     console = guest.devices.console
-    end = "halted" if guest.has_halted() else "budget"
+    end = f"cell {killer}" if killer is not None else "halted" if guest.has_halted() else "budget"
     return f"guest {number} console {len(console)}\n".encode() + console + f"\nend {end}\n".encode()
 
 
@@ -170,19 +204,25 @@ def sums_of(monitored: Monitored) -> bytes:
     host, pages = monitored.host, monitored.host.pages
     return (
         f"sums steps {monitored.steps} refills {host.refills} moves {pages.moves} skips {pages.skips} "
-        f"breaks {pages.breaks} shared {pages.shared} received {len(monitored.received)} discarded 0\n"
+        f"breaks {pages.breaks} shared {pages.shared} "
+        f"received {len(monitored.received)} discarded {len(monitored.discarded)}\n"
     ).encode()
 
 
 def private_report(starts: Sequence[Start], plan: Iterable[Item]) -> bytes:
-    """The report of the guests, each alone: what one sends goes nowhere."""
+    """The report of the guests, each alone."""
+    return b"".join(report_of(number, guest) for number, guest in enumerate(private_guests(starts, plan)))
+
+
+def private_guests(starts: Sequence[Start], plan: Iterable[Item]) -> list[Guest]:
+    """The guests after their runs, each alone: what one sends goes nowhere, and no cell fails."""
     guests = [Guest(start, Watcher()) for start in starts]
     for item in plan:
-        if isinstance(item, Ask):
+        if not isinstance(item, Run):
             continue
         guest = guests[item.guest]
         for _ in range(item.steps):
             if guest.processors[item.processor].halted:
                 break
             guest.step(item.processor)
-    return b"".join(report_of(number, guest) for number, guest in enumerate(guests))
+    return guests

@@ -21,19 +21,25 @@ class Monitored:
         self.in_hand: Arrival | None = None
         self.last_sender = number  # whose packet was taken last
         self.has_ended = False
+        self.killer: int | None = None  # the cell by whose failure it ended
         self.steps = 0
         self.received: list[Arrival] = []
+        self.discarded: list[Arrival] = []
         self.was_armed = False
 
     def is_loaded(self, virtual: int) -> bool:
         return any(seat.loaded == virtual for seat in self.host.seats.values())
+
+    def may_be_loaded(self, processor: int) -> bool:
+        """Whether it hasn't ended, and the cell of a processor of the machine hasn't failed for it."""
+        return not self.has_ended and not self.host.is_dead_processor(processor)
 
     # turns
 
     def turn(self, seat: Seat) -> Answer:
         """What is due is asked for, then a packet may come, and then one event."""
         if seat.due is not None:
-            self.host.ask(seat.due)
+            self.host.ask(seat.processor, seat.due)
         for _ in range(MOST_CALLS):
             if self.packet_in() not in (Answer.BEGUN, Answer.FINISHED):
                 break
@@ -67,7 +73,7 @@ class Monitored:
     # packets
 
     def packet_in(self) -> Answer:
-        """A packet comes in where the guest has armed a page and hasn't ended."""
+        """A packet comes in where the guest has armed a page and hasn't ended. One from a dead cell is thrown away."""
         armed = self.guest.devices.armed
         if armed is None or self.has_ended:
             return Answer.NOT_ARMED
@@ -76,7 +82,15 @@ class Monitored:
         if self.in_hand is None:
             return Answer.NONE_IN_HAND
         self.last_sender = self.in_hand.sender
-        return self.host.make_way(armed, self.in_hand.frame, Delivery(len(self.received))) or self.receive(self.in_hand)
+        if self.in_hand.cell in self.host.dead:
+            return self.discard(self.in_hand)
+        delivery = Delivery(len(self.received) + len(self.discarded))
+        return self.host.make_way(armed, self.in_hand.frame, delivery) or self.receive(self.in_hand)
+
+    def discard(self, packet: Arrival) -> Answer:
+        self.discarded.append(packet)
+        self.in_hand = None
+        return Answer.DISCARDED
 
     def receive(self, packet: Arrival) -> Answer:
         self.guest.devices.receive(packet.sender, packet.data)
@@ -84,11 +98,21 @@ class Monitored:
         self.in_hand = None
         return Answer.DELIVERED
 
+    # cells that fail
+
+    def cell_fails(self, cell: int) -> Answer:
+        """A guest that uses the cell ends; another one goes on without it."""
+        if not self.has_ended and self.host.uses(cell):
+            self.killer = cell
+            self.end()
+        self.host.dead.add(cell)
+        return Answer.CELL_FAILED
+
     # ends
 
     def take_last_packet(self) -> None:
         """Once the plan is done."""
-        while self.packet_in() in (Answer.BEGUN, Answer.FINISHED):
+        while self.packet_in() in (Answer.BEGUN, Answer.FINISHED, Answer.DISCARDED):
             pass
 
     def end_by_budget(self) -> None:

@@ -54,6 +54,7 @@ class Cause(Enum):
     """Why a move that was asked for doesn't begin."""
 
     ENDED = "the guest has ended"
+    DEAD_CELL = "the cell of the asker or of the node has failed"
     SHARED = "the page is shared"
     REPLICATED = "a page with replicas doesn't migrate"
     SAME_NODE = "the page has a frame on the node"

@@ -2,6 +2,7 @@
 
 from __future__ import annotations
 
+from collections.abc import Sequence
 from dataclasses import dataclass
 
 from .moves import PageMove
@@ -26,11 +27,19 @@ class Ask:
     move: PageMove
 
 
-Item = Run | Ask
+@dataclass(frozen=True)
+class Fail:
+    """A processor of the machine lets a cell fail for one guest after the other."""
+
+    asker: int
+    cell: int
 
 
-def processor_of(item: Item, hosts: list[int]) -> int:
+Item = Run | Ask | Fail
+
+
+def processor_of(item: Item, hosts: Sequence[int]) -> int:
     """The processor of the machine that carries an item out."""
-    if isinstance(item, Ask):
+    if isinstance(item, Ask | Fail):
         return item.asker
     return hosts[item.guest] if item.host is None else item.host

@@ -18,6 +18,7 @@ class Arrival:
     sender: int
     data: bytes
     frame: Frame | None
+    cell: int  # from which it was sent
 
 
 class Wires:
@@ -41,5 +42,5 @@ class Wires:
             queue = self.queues.get((sender, receiver))
             if queue:
                 packet = queue.popleft()
-                return Arrival(sender, packet.data, packet.frame)
+                return Arrival(sender, packet.data, packet.frame, packet.cell)
         return None

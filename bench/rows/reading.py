@@ -6,7 +6,22 @@ import tomllib
 from dataclasses import dataclass
 
 from generator.assembler import KERNEL
-from reference import AdmissionFault, Ask, Collapse, DiskFile, Item, Machine, Migrate, Monitor, PageMove, Policy, Replicate, Run, Start
+from reference import (
+    AdmissionFault,
+    Ask,
+    Collapse,
+    DiskFile,
+    Fail,
+    Item,
+    Machine,
+    Migrate,
+    Monitor,
+    PageMove,
+    Policy,
+    Replicate,
+    Run,
+    Start,
+)
 
 Files = dict[str, bytes]
 
@@ -35,9 +50,14 @@ def move_of(work: dict) -> PageMove:
 
 
 def item_of(work: dict) -> Item:
-    if work["act"] == "move":
-        return Ask(work["processor"], work["guest"], move_of(work))
-    return Run(work["guest"], work["vcpu"], work["steps"], work["processor"])
+    match work["act"]:
+        case "run":
+            return Run(work["guest"], work["vcpu"], work["steps"], work["processor"])
+        case "move":
+            return Ask(work["processor"], work["guest"], move_of(work))
+        case "fail":
+            return Fail(work["processor"], work["cell"])
+    raise ValueError(work["act"])
 
 
 def machine_of(described: dict) -> Machine:

@@ -33,6 +33,10 @@ def moved(number: int, page: int, kind: str, node: int | None = None) -> str:
     return f'[[work]]\nact = "move"\nprocessor = 0\nguest = {number}\npage = {page}\nkind = "{kind}"\n{to}'
 
 
+def failed(cell: int) -> str:
+    return f'[[work]]\nact = "fail"\nprocessor = 0\ncell = {cell}\n'
+
+
 def words(text: str) -> bytes:
     """An image of words in hexadecimal."""
     return b"".join(int(word, 16).to_bytes(4, "big") for word in text.split())
@@ -50,3 +54,8 @@ def told(number: int, console: str, end: str, **sums: int) -> str:
     names = ("steps", "refills", "moves", "skips", "breaks", "shared", "received", "discarded")
     counts = " ".join(f"{name} {sums.get(name, 0)}" for name in names)
     return f"guest {number} console {len(console)}\n{console}\nend {end}\nsums {counts}\n"
+
+
+def failure(cell: int, *ended: int) -> str:
+    """The line of a failure, and the guests that it ended."""
+    return f"failure cell {cell} ended {' '.join(map(str, ended)) or 'none'}\n"

@@ -1,5 +1,5 @@
 -- What is made from a number is accepted.
-use Rattle.std.proofs.Common.{◌≡◌, false, ℕ, ◌+◌, ◌%◌, ◌^◌, List, [], ◌∷◌, Option, Some, None, Result, Ok, Err, ap, refl, ◌∙◌}
+use Rattle.std.proofs.Common.{◌≡◌, false, ℕ, ◌+◌, ◌%◌, ◌^◌, [], ◌∷◌, Some, None, Result, Ok, ap, refl, ◌∙◌}
 use Rattle.std.specs.Fmt.{digits}
 use Rattle.std.specs.Str.{is_utf8, chars}
 use Rattle.toml.proofs.OnLiterals.{toml_on_literals}
@@ -20,14 +20,12 @@ use Rattle.machine_desc.specs.declared.fault.DescFault.{DescFault}
 use Rattle.guest_gen.specs.Disk.{disk_of}
 use Rattle.guest_gen.specs.Image.{image_of}
 use Rattle.guest_gen.specs.Made.{files_of}
-use Rattle.admission.specs.declared.faults.Fault.{Fault}
 use Rattle.admission.specs.Chain.{Files, ◌>>=◌, of_description}
 use Rattle.admission.specs.Generated.{generated, spec_of}
 use Rattle.admission.specs.Jobs.{at_hand, held_or_none, guests_of, load_job, made_run, short_in}
 use Rattle.admission.specs.MadeRun.{made_start, made_starts}
 use Rattle.admission.specs.Stages.{Agrees, known, look}
 use Rattle.admission.specs.Starts.{starts_from}
-use Rattle.unbuilt_keys.specs.Unbuilt.{unbuilt}
 use Rattle.admission.proofs.MadeStarts.{disk_made, start_made, starts_next, starts_none, guests_run}
 
 pub described_made : description_of (description_text 4 50000) ≡ Ok (generated 4 50000)
@@ -45,10 +43,6 @@ image_entry start = refl
 pub served_made : short_in (generated 4 50000) ≡ None
 unfolding has generated
 served_made = refl
-
-built_made : unbuilt (generated 4 50000) ≡ None
-unfolding generated
-built_made = refl
 
 module _ (seed : ℕ) where
   disk_there : look (known (files_of seed 4)) disk_name ≡ Some (Some (disk_of seed))
@@ -82,7 +76,7 @@ starts_made seed f agrees =
     (starts_next f 3 (spec_of 3) [] (made_start seed 3) _ (start_made image_sound image_entry f seed 3 (agrees (image_name 3) _ (fourth_there seed)) refl) (starts_none f 4))))
 
 pub guests_made : (seed : ℕ) (f : Files) → Agrees (known (files_of seed 4)) f → guests_of false f (generated 4 50000) ≡ Ok (made_run seed)
-guests_made seed f agrees = guests_run f (generated 4 50000) (made_starts seed) (starts_made seed f agrees) built_made served_made
+guests_made seed f agrees = guests_run f (generated 4 50000) (made_starts seed) (starts_made seed f agrees) served_made
 
 pub load_made : (seed : ℕ) → load_job seed ≡ Ok (made_run seed)
 load_made seed =

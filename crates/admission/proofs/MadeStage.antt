@@ -1,5 +1,5 @@
 -- A stage over files at hand that reads nothing else, whatever other files there are.
-use Rattle.std.proofs.Common.{◌≡◌, ◌∙◌, ℕ, false, arith, List, [], ◌++◌, Option, Some, None, Result, Ok, Err, refl, ap, sym, subst}
+use Rattle.std.proofs.Common.{◌≡◌, ◌∙◌, ℕ, false, arith, List, [], ◌++◌, Result, Ok, Err, refl, ap, sym, subst}
 use Rattle.std.proofs.lemmas.List.{append-nil}
 use Rattle.outside_io.specs.declared.memory.HeldFile.{HeldFile}
 use Rattle.outside_io.specs.Reading.{ShelfView}

@@ -1,5 +1,5 @@
 -- What guests that are made start from.
-use Rattle.std.proofs.Common.{◌≡◌, ℕ, suc, ◌+◌, ◌*◌, ◌%◌, ◌^◌, ◌≤◌, nat_le, Bool, true, false, List, [], ◌∷◌, ◌++◌, length, map, Option, Some, None, Result, Ok, Err, ap, sym, refl, ◌∙◌, arith, length-append}
+use Rattle.std.proofs.Common.{◌≡◌, ℕ, suc, ◌+◌, ◌*◌, ◌%◌, ◌^◌, nat_le, true, false, List, [], ◌∷◌, length, map, Option, Some, None, Result, Ok, ap, refl, ◌∙◌, arith, length-append}
 use Rattle.std.specs.List.{range_with_len, flat_map}
 use Rattle.std.proofs.lemmas.List.FromFn.{length-map-range_with_len}
 use Rattle.byteorder.specs.Endian.{big_bytes}
@@ -11,10 +11,8 @@ use Rattle.machine_desc.specs.declared.machine.GuestSpec.{GuestSpec}
 use Rattle.admission.specs.declared.faults.Fault.{Fault}
 use Rattle.boot_frames.specs.declared.answers.Shortage.{Shortage}
 use Rattle.machine_desc.specs.Described.{Described}
-use Rattle.unbuilt_keys.specs.declared.key.UnbuiltKey.{UnbuiltKey}
-use Rattle.admission.specs.Chain.{Files, ◌>>=◌, content, fitting, longest_image, longest_disk}
-use Rattle.admission.specs.Jobs.{Job, Monitored, short_in, served, refused_key, checked, job_from, guests_of}
-use Rattle.unbuilt_keys.specs.Unbuilt.{unbuilt}
+use Rattle.admission.specs.Chain.{Files, ◌>>=◌, content, longest_image, longest_disk}
+use Rattle.admission.specs.Jobs.{Monitored, short_in, served, checked, job_from, guests_of}
 use Rattle.admission.specs.Starts.{Start, elf_image, guest_image, of_guest, unless, image_at, disk_at, start_at, starts_from, blocks_of}
 use Rattle.guest_gen.specs.Description.{image_name, disk_name}
 use Rattle.guest_gen.specs.Disk.{disk_word, disk_of}
@@ -90,10 +88,9 @@ start_made sound entry f seed guest there disk =
 
 -- ---- the job
 
--- guests that start, that fit, and of which all that they ask for is built, are run
-pub guests_run : (f : Files) (d : Described) (starts : List Start) → starts_from f 0 d.guests ≡ Ok starts → unbuilt d ≡ None → short_in d ≡ None
+-- guests that start and that fit are run
+pub guests_run : (f : Files) (d : Described) (starts : List Start) → starts_from f 0 d.guests ≡ Ok starts → short_in d ≡ None
     → guests_of false f d ≡ Ok (Monitored d starts true)
-guests_run f d starts start built fit =
+guests_run f d starts start fit =
     ap (λ (r : Result (List Start) Fault). r >>= checked false d) start
-    ∙ ap (λ (key : Option UnbuiltKey). (refused_key key >>= λ _. served (short_in d)) >>= λ _. Ok (job_from false d starts)) built
     ∙ ap (λ (short : Option Shortage). served short >>= λ _. Ok (job_from false d starts)) fit

@@ -17,15 +17,13 @@ use Rattle.machine_desc.specs.declared.fault.DescFault.TheVariants as descriptio
 use Rattle.machine_desc.specs.declared.machine.GuestSpec.{GuestSpec}
 use Rattle.machine_desc.specs.Described.{Described, description_of}
 use Rattle.admission.specs.declared.faults.Fault.{Fault}
-use Rattle.admission.specs.declared.faults.Fault.TheVariants.{Words, Read, Long, Asm as AsmFault, Description, BadImage, Unbuilt, CacheAdmission, Admission}
-use Rattle.unbuilt_keys.specs.declared.key.UnbuiltKey.{UnbuiltKey}
+use Rattle.admission.specs.declared.faults.Fault.TheVariants.{Words, Read, Long, Asm as AsmFault, Description, BadImage, CacheAdmission, Admission}
 use Rattle.admission.specs.Words.{Form, Raw, Machine, Private, Make, Load, Litmus, Asm, AsmSteps, form_of}
 use Rattle.boot_frames.specs.declared.answers.Shortage.{Shortage}
 use Rattle.boot_frames.specs.declared.answers.Shortage.TheVariants.{Memory, Cell, Guest}
 use Rattle.admission.specs.Chain.{Files, ◌>>=◌, known_form, fitting, content, of_description, of_text, assembled, longest_description, longest_litmus, longest_text, longest_image, longest_disk}
 use Rattle.admission.specs.Starts.{Start, unless, raw_image, elf_image, guest_image, of_guest, image_at, disk_at, start_at, starts_from}
-use Rattle.unbuilt_keys.specs.Unbuilt.{unbuilt}
-use Rattle.admission.specs.Jobs.{refused_key, short_in, served, checks, checked, described_from, described_job, raw_job, litmus_job, Job, Listing, asm_from, asm_checked, asm_run_checked, job_by, job_of}
+use Rattle.admission.specs.Jobs.{short_in, served, checks, checked, described_from, described_job, raw_job, litmus_job, Job, Listing, asm_from, asm_checked, asm_run_checked, job_by, job_of}
 use Rattle.admission.specs.Texts.{Names, RefusesLine}
 use Rattle.admission.specs.Tells.{Tells, DescriptionsTell}
 
@@ -128,7 +126,6 @@ TellsBehind (Long name) = Unit {0}
 TellsBehind (AsmFault line cause) = ⊥
 TellsBehind (Description fault) = fault ≢ description.Memory
 TellsBehind (BadImage guest fault) = fault ≢ image.Memory
-TellsBehind (Unbuilt key) = Unit {0}
 TellsBehind (CacheAdmission cell needs has) = Unit {0}
 TellsBehind (Admission guest needs has) = Unit {0}
 
@@ -139,7 +136,6 @@ tells_behind (Long name) tells = tt
 tells_behind (AsmFault line cause) tells = absurd tells
 tells_behind (Description fault) tells = tells
 tells_behind (BadImage guest fault) tells = tells
-tells_behind (Unbuilt key) tells = tt
 tells_behind (CacheAdmission cell needs has) tells = tt
 tells_behind (Admission guest needs has) tells = tt
 
@@ -186,10 +182,6 @@ starts_from-tells files guest (spec ∷ specs) =
     then-tells (start_at files guest spec) _ (start_at-tells files guest spec) λ start.
     then-tells (starts_from files (suc guest) specs) _ (starts_from-tells files (suc guest) specs) (λ starts. tt)
 
-refused_key-tells : (k : Option UnbuiltKey) → AlwaysTells (refused_key k)
-refused_key-tells None = tt
-refused_key-tells (Some key) = tt
-
 served-tells : (short : Option Shortage) → AlwaysTells (served short)
 served-tells None = tt
 served-tells (Some Memory) = tt
@@ -198,9 +190,7 @@ served-tells (Some (Guest guest needs has)) = tt
 
 checked-tells : (alone : Bool) (d : Described) (starts : List Start) → AlwaysTells (checked alone d starts)
 checked-tells alone d starts =
-    then-tells (checks d) _
-    (then-tells (refused_key (unbuilt d)) _ (refused_key-tells (unbuilt d)) (λ _. served-tells (short_in d)))
-    (λ _. tt)
+    then-tells (checks d) _ (served-tells (short_in d)) (λ _. tt)
 
 of_description-tells : (r : Result Described DescFault) → ((fault : DescFault) → r ≡ Err fault → Tells (Description fault)) → AlwaysTells (of_description r)
 of_description-tells (Ok d) told = tt
@@ -274,7 +264,6 @@ text_told name held (Long other) tells = tt
 text_told name held (AsmFault line cause) tells = tt
 text_told name held (Description fault) tells = absurd tells
 text_told name held (BadImage guest fault) tells = absurd tells
-text_told name held (Unbuilt key) tells = tt
 text_told name held (CacheAdmission cell needs has) tells = tt
 text_told name held (Admission guest needs has) tells = tt
 

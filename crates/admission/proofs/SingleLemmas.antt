@@ -7,7 +7,6 @@ use Rattle.base_words.specs.declared.ids.NodeId.{NodeId}
 use Rattle.machine_desc.specs.Bounds.{IsGuest, IsItem, IsInput, IsEntry}
 use Rattle.machine_desc.specs.Accepted.{IsAccepted}
 use Rattle.node_frames.specs.Left.{has}
-use Rattle.unbuilt_keys.specs.Unbuilt.{unbuilt}
 use Rattle.admission.specs.Jobs.{short_in, single_guest, single_described}
 
 -- of a list of one item
@@ -55,6 +54,3 @@ single-accepted raw steps few = record {
 pub single-served : (raw : Bool) (steps : ℕ) → short_in (single_described raw steps) ≡ None
 unfolding has
 single-served raw steps = refl
-
-pub single-built : (raw : Bool) (steps : ℕ) → unbuilt (single_described raw steps) ≡ None
-single-built raw steps = refl

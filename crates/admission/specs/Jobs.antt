@@ -19,15 +19,13 @@ use Rattle.machine_desc.specs.declared.plan.Item.{Item}
 use Rattle.machine_desc.specs.declared.plan.Item.TheVariants.{Run}
 use Rattle.machine_desc.specs.Described.{Described, description_of}
 use Rattle.admission.specs.declared.faults.Fault.{Fault}
-use Rattle.admission.specs.declared.faults.Fault.TheVariants.{Unbuilt, CacheAdmission, Admission}
+use Rattle.admission.specs.declared.faults.Fault.TheVariants.{CacheAdmission, Admission}
 use Rattle.admission.specs.Words.{Form, Raw, Machine, Private, Make, Load, Litmus as LitmusForm, Asm, AsmSteps, form_of}
 use Rattle.admission.specs.Chain.{Files, ◌>>=◌, known_form, content, of_description, assembled, longest_description, longest_litmus, longest_text, longest_image}
 use Rattle.admission.specs.Starts.{Start, raw_image, of_guest, starts_from}
 use Rattle.admission.specs.Generated.{generated}
 use Rattle.admission.specs.MadeRun.{made_starts}
 use Rattle.admission.specs.Stages.{known, look}
-use Rattle.unbuilt_keys.specs.declared.key.UnbuiltKey.{UnbuiltKey}
-use Rattle.unbuilt_keys.specs.Unbuilt.{unbuilt}
 
 -- what is to be done
 pub data Job : Type 0 where
@@ -58,14 +56,9 @@ served (Some Memory) = Ok tt
 served (Some (Cell cell needs has)) = Err (CacheAdmission cell needs has)
 served (Some (Guest guest needs has)) = Err (Admission guest needs has)
 
--- a key that isn't built is refused, under the monitor and alone
-abbrev pub refused_key : Option UnbuiltKey → Result (Unit {0}) Fault
-refused_key None = Ok tt
-refused_key (Some key) = Err (Unbuilt key)
-
--- first all that is asked for has to be built, then the cells and the guests have to get their frames
+-- the cells and the guests have to get their frames
 abbrev pub checks : Described → Result (Unit {0}) Fault
-checks d = refused_key (unbuilt d) >>= λ _. served (short_in d)
+checks d = served (short_in d)
 
 abbrev pub job_from : Bool → Described → List Start → Job
 job_from true d starts = Alone d starts

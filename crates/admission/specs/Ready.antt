@@ -13,7 +13,6 @@ use Rattle.admission.specs.Chain.{Files}
 use Rattle.admission.specs.Jobs.{short_in}
 use Rattle.admission.specs.Stages.{FailedAt, IsCaused, Gives}
 use Rattle.admission.specs.Started.{AreStarted}
-use Rattle.unbuilt_keys.specs.Unbuilt.{unbuilt}
 use Rattle.admission.specs.Views.{starts_of}
 
 -- the description is within its bounds; each guest has an image and the number of its disk, and starts from these; and each cell and
@@ -25,9 +24,9 @@ pub record IsSetup (setup : Setup) : Type 0 where
   pub started : AreStarted setup.machine.guests (starts_of setup)
   pub served : short_in (described_seen setup.machine setup.plan) ≡ None
 
--- under the monitor all that is asked for is built; of a litmus file, and of what is printed, nothing is asked
+-- of a litmus file, and of what is printed, nothing is asked
 abbrev pub IsReady : Job → Type 0
-IsReady (Monitored setup sums) = IsSetup setup × (unbuilt (described_seen setup.machine setup.plan) ≡ None)
+IsReady (Monitored setup sums) = IsSetup setup
 IsReady (Alone setup) = IsSetup setup
 IsReady (Print made) = Unit {0}
 IsReady (Litmus bytes) = Unit {0}

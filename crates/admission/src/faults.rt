@@ -8,7 +8,6 @@ use guest_asm::AsmCause;
 use machine_desc::DescFault;
 use std::alloc::{AllocError, AllocFailed};
 use thiserror::Error;
-use unbuilt_keys::UnbuiltKey;
 
 /// Why a job is refused.
 #[derive(Debug, Drop, Error)]
@@ -34,9 +33,6 @@ pub enum Fault {
     /// A guest's image is refused.
     #[error("an image is refused")]
     BadImage(GuestId, ImageFault),
-    /// The description asks for what isn't built.
-    #[error("the description asks for what isn't built")]
-    Unbuilt(UnbuiltKey),
     /// A cell's cache has more frames than there are free on the cell's nodes.
     #[error("a cache has more frames than there are on the cell's nodes")]
     CacheAdmission {

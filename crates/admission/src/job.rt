@@ -67,7 +67,7 @@ fn job_in(alone: bool, setup: Setup) -> Job
     }
 }
 
-/// The job of a description whose guests start from this, where all that it asks for is built and the guests fit.
+/// The job of a description whose guests start from this, where the cells and the guests get their frames.
 fn checked(
     alloc: Global,
     files: &[HeldFile],
@@ -87,7 +87,7 @@ fn checked(
     Ok(job_in(alone, setup))
 }
 
-/// The guests' files, and then whether all is built and fits.
+/// The guests' files, and then whether the cells and the guests get their frames.
 pub fn guests_of<S: Shelf>(
     alloc: Global,
     shelf: &mut S,

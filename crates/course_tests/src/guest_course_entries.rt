@@ -9,6 +9,7 @@ ghost use Rattle.guest_course.specs.CourseView.{hand_of, state_of};
 ghost use Rattle.guest_course.specs.StepCalls.{MayStep};
 ghost use Rattle.wire_queue.specs.Packets.{packet_of};
 
+use crate::guest_course_turns::cell_of;
 use base_words::{
     Blocks, CellId, DataAccess, Frame, FrameList, FrameNo, GuestId, HwStep, NodeId, Page, Policy,
     ProcId, Sequence, Shape, VcpuId,
@@ -144,6 +145,7 @@ fn a_guest_prints_what_it_stored(rt: HostRuntime) -> Result<(), Fail> {
         disk,
         &Sequence::new(alloc),
     )?;
+    assert!(rt; !course.is_dead(cell_of(&course, ProcId(0))));
     course.load(ProcId(0), VcpuId(0));
     let expected = [
         (3, None),
@@ -217,6 +219,7 @@ fn a_guest_prints_what_its_disk_has(rt: HostRuntime) -> Result<(), Fail> {
         disk,
         &Sequence::new(alloc),
     )?;
+    assert!(rt; !course.is_dead(cell_of(&course, ProcId(0))));
     course.load(ProcId(0), VcpuId(0));
     for _entry in 0..60 {
         assert!(rt; 0 < course.places.len());
@@ -256,6 +259,9 @@ fn come(alloc: Global, course: &mut Course) -> Result<(), AllocError>
 {
     course.reserve()?;
     course.take_in_hand(packet(alloc)?);
+    if course.lost_packet().is_some() {
+        return Err(AllocError);
+    }
     match course.packet_hurdle() {
         Hurdle::Free => course.receive(alloc),
         Hurdle::Waits(_) | Hurdle::Needs(..) => Ok(()),
@@ -289,6 +295,7 @@ fn a_packet_comes_into_the_armed_page(rt: HostRuntime) -> Result<(), Fail> {
         disk,
         &Sequence::new(alloc),
     )?;
+    assert!(rt; !course.is_dead(cell_of(&course, ProcId(0))));
     course.load(ProcId(0), VcpuId(0));
     for _entry in 0..40 {
         assert!(rt; 0 < course.places.len());

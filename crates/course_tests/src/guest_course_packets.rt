@@ -8,11 +8,12 @@ ghost use Rattle.guest_course.specs.CourseView.{hand_of, surroundings, state_of}
 ghost use Rattle.isolation_law.specs.Phases.{GoesOn};
 ghost use Rattle.isolation_law.specs.Surroundings.{cell_of_frame, cell_of_node, home_cell};
 ghost use Rattle.wire_queue.specs.Packets.{packet_of};
+ghost use Rattle.guest_course.specs.ReceivingCalls.{HandLives};
 
 use crate::guest_course_sharing::{
     PAGE, UP_TO_PAGE_1, guest, page_of, ready, try_end, try_page, try_turns,
 };
-use crate::guest_course_turns::Did;
+use crate::guest_course_turns::{Did, lies_alive};
 use base_words::{CellId, FrameNo, GuestId, MoveKind, Ppn, SharedFrame};
 use guest_course::{Around, Course, Hurdle};
 use std::alloc::{AllocError, Global};
@@ -33,6 +34,7 @@ const ARMS_A_PAGE: [u8; 36] = [
 fn whole_packet(alloc: Global, frame: FrameNo) -> Result<WirePacket, AllocError>
     ensures long { IfOk result (λ packet. packet.length ≡ 4096) }
     ensures whole { IfOk result (λ packet. length (hand_of packet).bytes ≡ 4096) }
+    ensures sender { IfOk result (λ packet. packet.cell.0 ≡ 0) }
     ensures handed { IfOk result (λ packet. (packet_of packet).whole ≡ Some (record { frame = frame.0; generation = 2 })) }
 {
     let letter = page_of(alloc, b'P')?;
@@ -68,12 +70,17 @@ fn is_within(around: &Around, frame: FrameNo) -> bool
     nodes <= 8 && u64::from(frame.0) < nodes as u64 * u64::from(around.site.shape.frames)
 }
 
-/// Whether a frame lies on a guest's home cell.
+/// Whether a frame lies on a guest's home cell, which is cell 0, the packet's.
 fn is_at_home(around: &Around, frame: FrameNo) -> bool
-    ensures { OnTrue result (cell_of_frame (surroundings around.now) frame.0 ≡ home_cell (surroundings around.now)) }
+    ensures sender { OnTrue result (cell_of_frame (surroundings around.now) frame.0 ≡ 0) }
+    ensures home { OnTrue result (cell_of_frame (surroundings around.now) frame.0 ≡ home_cell (surroundings around.now)) }
 {
     let frames = around.site.shape.frames;
-    frames != 0 && cell_at(around, frame.0 / frames) == cell_at(around, u32::from(around.home.0))
+    if frames == 0 {
+        return false;
+    }
+    let cell = cell_at(around, frame.0 / frames);
+    cell == CellId(0) && cell == cell_at(around, u32::from(around.home.0))
 }
 
 /// The guest, which has armed a page, takes a packet in hand that hands on this frame.
@@ -112,6 +119,7 @@ fn come_freely(alloc: Global, course: &mut Course, page: Ppn) -> Result<Came, Al
     requires sound { IsSound course.old }
     requires goes_on { GoesOn (state_of course.old) }
     requires in_hand { course.old.hand ≢ None }
+    requires lives { HandLives (state_of course.old) }
     requires armed { (state_of course.old).devices.armed ≡ Some page.0 }
     requires rests { (page_at course.old.pmap.pages page.0).move ≡ None }
     requires writable { (q : ℕ) → (state_of course.old).devices.armed ≡ Some q → IsWritable (page_at course.old.pmap.pages q) }
@@ -121,6 +129,9 @@ fn come_freely(alloc: Global, course: &mut Course, page: Ppn) -> Result<Came, Al
 {
     match course.delivery()? {
         Some((target, delivery)) => {
+            if !lies_alive(course, target.number) {
+                return Err(AllocError);
+            }
             course.begin_for_delivery(page, target, delivery);
             Ok(Came::Begun(page))
         }
@@ -136,6 +147,7 @@ fn come_taken(alloc: Global, course: &mut Course, page: Ppn) -> Result<Came, All
     requires sound { IsSound course.old }
     requires goes_on { GoesOn (state_of course.old) }
     requires in_hand { course.old.hand ≢ None }
+    requires lives { HandLives (state_of course.old) }
     requires armed { (state_of course.old).devices.armed ≡ Some page.0 }
     requires page { page.0 < length course.old.pmap.pages }
     requires place { vec_len course.old.received < vec_capacity course.old.received }
@@ -155,7 +167,7 @@ fn come<R: Abort>(rt: &R, alloc: Global, course: &mut Course) -> Result<Came, Al
     ensures { IsSound course.new }
 {
     course.reserve()?;
-    assert!(rt; course.hand.is_some());
+    assert!(rt; course.hand.is_some() && course.lost_packet().is_none());
     let Some(armed) = course.armed() else {
         panic!(rt; "no page is armed");
     };

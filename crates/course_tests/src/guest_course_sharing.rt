@@ -9,7 +9,7 @@ ghost use Rattle.guest_course.specs.CourseView.{state_of};
 ghost use Rattle.guest_course.specs.StepCalls.{MayStep};
 
 use crate::guest_course_entries::around;
-use crate::guest_course_turns::{Did, PROCESSOR, Sent, turn};
+use crate::guest_course_turns::{Did, PROCESSOR, Sent, cell_of, turn};
 use base_words::{Blocks, Frame, FrameList, FrameNo, MoveKind, Page, Ppn, Sequence, VcpuId};
 use cow_disk::Disk;
 use guest_course::Course;
@@ -105,6 +105,9 @@ pub(crate) fn guest(alloc: Global, program: &[u8]) -> Result<Course, AllocError>
         disk,
         &Sequence::new(alloc),
     )?;
+    if course.is_dead(cell_of(&course, PROCESSOR)) {
+        return Err(AllocError);
+    }
     course.load(PROCESSOR, VcpuId(0));
     Ok(course)
 }

@@ -1,21 +1,24 @@
 //! Turns of a guest on processor 0, for the tests: what is to be done for moves of its pages, and the entries between. A page is shared
 //! wherever it can be: the copy of block n lies in frame 6 + n, and frame 3 is the spare for a page that is given.
-ghost use Rattle.std.specs.Prelude.{◌≡◌, ◌<◌, IfOk, Some, length};
+ghost use Rattle.std.specs.Prelude.{◌≡◌, ◌<◌, IfOk, Some, length, false};
 ghost use Rattle.std.specs.Bool.{OnTrue};
 ghost use Rattle.std.specs.Vec.{vec_len, vec_capacity};
 ghost use Rattle.private_machine.specs.Backing.{Copy};
 ghost use Rattle.pmap_table.specs.Frames.{shared_copy_of};
-ghost use Rattle.isolation_law.specs.GuestState.{block as block_of};
+ghost use Rattle.isolation_law.specs.GuestState.{block as block_of, is_dead};
 ghost use Rattle.isolation_law.specs.MoveRows.{IsForeign};
-ghost use Rattle.guest_course.specs.CourseRules.{IsSound};
-ghost use Rattle.guest_course.specs.CourseView.{state_of};
+ghost use Rattle.guest_course.specs.CourseRules.{AllStand, IsSound};
+ghost use Rattle.guest_course.specs.CourseView.{state_of, surroundings};
 ghost use Rattle.guest_course.specs.EmulateCalls.{LeavesAct};
 ghost use Rattle.guest_course.specs.Hurdles.{ActIsFree};
 ghost use Rattle.guest_course.specs.Posting.{to_give, AreWithin};
 ghost use Rattle.guest_course.specs.StepCalls.{MayStep};
 ghost use Rattle.course_tests.specs.Lacking.{LacksFrame};
+ghost use Rattle.isolation_law.specs.Surroundings.{cell_of_frame, cell_of_processor};
 
-use base_words::{Frame, FrameNo, HwStep, MoveKind, Page, Ppn, ProcId, SharedFrame, VcpuId};
+use base_words::{
+    CellId, Frame, FrameNo, HwStep, MoveKind, NodeId, Page, Ppn, ProcId, SharedFrame, VcpuId,
+};
 use guest_course::{Course, Entry, Errand, Hurdle, Outgoing, acts_are_at_hand};
 use guest_devs::DevAct;
 use pmap_table::Pmap;
@@ -154,6 +157,31 @@ fn make(alloc: Global, course: &mut Course, vcpu: VcpuId, act: DevAct) -> Result
     })
 }
 
+/// The cell of a processor.
+pub(crate) fn cell_of(course: &Course, processor: ProcId) -> CellId
+    requires is_processor { processor.0 < length course.now.places.items }
+    requires places { AllStand (surroundings course.now.around) 0 course.now.places.items }
+    ensures { result.0 ≡ cell_of_processor (surroundings course.now.around) processor.0 }
+{
+    let node = course.places[processor.0 as usize].node;
+    course.around.site.shape.cells.as_slice()[node.0 as usize]
+}
+
+/// Whether a frame lies in a cell that hasn't failed.
+pub(crate) fn lies_alive(course: &Course, frame: FrameNo) -> bool
+    requires sound { IsSound course.now }
+    ensures { OnTrue result (is_dead (state_of course.now) (cell_of_frame (state_of course.now).around frame.0) ≡ false) }
+{
+    let frames = course.around.site.shape.frames;
+    if frames == 0 {
+        return false;
+    }
+    match u8::try_from(frame.0 / frames) {
+        Ok(node) => !course.is_dead(course.cell_of_node(NodeId(node))),
+        Err(_) => false,
+    }
+}
+
 /// Begins to give the page from which an act sends, with the spare for it. An error is want of memory, or a guest that holds other frames
 /// than its pages'.
 fn give(
@@ -171,7 +199,7 @@ fn give(
     requires room { 0 < course.old.pmap.room }
     ensures { IsSound course.new }
 {
-    if !is_foreign(course, SPARE) {
+    if !is_foreign(course, SPARE) || !lies_alive(course, SPARE) {
         return Err(AllocError);
     }
     let spare = Frame {
@@ -200,6 +228,9 @@ fn share_or_make(
 {
     if let Some((block, page)) = course.to_share(vcpu, act) {
         let frame = copy_of_block(alloc, course, block)?;
+        if !lies_alive(course, frame.number) {
+            return Err(AllocError);
+        }
         course.begin_for_block(PROCESSOR, vcpu, act, block, page, frame);
         return Ok(Did::Begun(page, MoveKind::TakeShared));
     }

@@ -35,7 +35,7 @@ pub(crate) const WITH_SUMS: &str =
     "guest 0 console 1\nA\nend halted\nsums steps 5 refills 1 moves 0 skips 0 breaks 0 shared 0 received 0 discarded 0\n";
 
 /// A change of the description: what is replaced, and by what.
-type Change<'a> = (&'a str, &'a str);
+pub(crate) type Change<'a> = (&'a str, &'a str);
 
 /// A description that is P1 with changes, the words' option, the files, what fails, and what has to come of it.
 #[derive(Clone, Copy)]

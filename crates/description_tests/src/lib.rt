@@ -6,6 +6,8 @@ mod cases;
 #[cfg(test)]
 mod descriptions;
 #[cfg(test)]
+mod failing;
+#[cfg(test)]
 mod guests;
 #[cfg(test)]
 mod handing_on;

@@ -1,7 +1,7 @@
 //! Descriptions that are refused, and files and outputs that fail.
 use crate::cases::{
-    ALONE, Case, DISK, FIFTEEN_STEPS, FOUR_FRAMES, KEEPS_ONE, MOVE_AND_FAILURE, P1, TWO_GUESTS,
-    machine, private, refused, try_all, try_case,
+    ALONE, Case, FOUR_FRAMES, KEEPS_ONE, P1, TWO_GUESTS, machine, private, refused, try_all,
+    try_case,
 };
 use std::test::Fail;
 
@@ -59,36 +59,6 @@ fn descriptions_are_refused(rt: HostRuntime) -> Result<(), Fail> {
             )],
             5,
             "fault description steps 16000005\n",
-        ),
-    ];
-    try_all(&rt, rt.alloc(), &cases)?;
-    for case in &cases {
-        let alone = Case {
-            option: "--private",
-            ..*case
-        };
-        try_case(&rt, rt.alloc(), &alone)?;
-    }
-    Ok(())
-}
-
-#[test]
-fn what_isnt_built_is_refused(rt: HostRuntime) -> Result<(), Fail> {
-    let cases = [
-        refused(
-            &[FIFTEEN_STEPS, MOVE_AND_FAILURE],
-            5,
-            "fault description unbuilt work[2].act\n",
-        ),
-        refused(
-            &[DISK, FIFTEEN_STEPS, MOVE_AND_FAILURE],
-            5,
-            "fault description unbuilt work[2].act\n",
-        ),
-        refused(
-            &[KEEPS_ONE, FIFTEEN_STEPS, MOVE_AND_FAILURE],
-            5,
-            "fault description unbuilt work[2].act\n",
         ),
     ];
     try_all(&rt, rt.alloc(), &cases)?;

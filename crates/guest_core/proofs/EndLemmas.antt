@@ -9,7 +9,7 @@ use Rattle.base_words.specs.declared.events.Event.TheVariants.{Finish}
 use Rattle.base_words.specs.declared.ids.Ppn.{Ppn}
 use Rattle.private_machine.specs.Backing.{Move, Page, no_page}
 use Rattle.pmap_table.specs.PageMap.{is_moving}
-use Rattle.pmap_table.specs.Tracking.{nobody, HoldsNowhere}
+use Rattle.pmap_table.specs.Tracking.{HoldsNowhere}
 use Rattle.isolation_law.specs.EndRows.{PlanIsDone}
 use Rattle.isolation_law.specs.GuestState.{GuestState, page}
 use Rattle.isolation_law.specs.Phases.{GoesOn}

@@ -1,17 +1,16 @@
 -- Which page an act shares, against what the step at hand does.
-use Rattle.std.proofs.Common.{◌≡◌, ℕ, ◌==◌, not, ◌&&◌, if◌then◌else◌, Bool, true, false, Option, Some, None, refl, sym, ap, ◌∙◌, subst}
-use Rattle.base_words.specs.declared.ids.CellId.{CellId}
+use Rattle.std.proofs.Common.{◌≡◌, ℕ, ◌==◌, not, ◌&&◌, if◌then◌else◌, Bool, true, false, Some, None, refl, sym, ap, ◌∙◌, subst, zero, suc, cond, List, [], ◌∷◌, ◌<◌, get_or, length, arith}
 use Rattle.base_words.specs.declared.ids.NodeId.{NodeId}
 use Rattle.guest_devs.specs.declared.act.DevAct.{DevAct}
 use Rattle.guest_devs.specs.declared.act.DevAct.TheVariants as acts
 use Rattle.node_frames.specs.Layout.{Layout, layout_of}
-use Rattle.private_machine.specs.DeviceAct.{Act, ReadsDisk, WritesDisk, SendsPage, NoAct}
+use Rattle.private_machine.specs.DeviceAct.{ReadsDisk, WritesDisk, SendsPage, NoAct}
 use Rattle.private_machine.specs.DevicePage.{transfer_of}
 use Rattle.private_machine.specs.Devices.{disk_status, may_send}
 use Rattle.isolation_law.specs.Content.{content}
-use Rattle.isolation_law.specs.GuestState.{GuestState, page}
+use Rattle.isolation_law.specs.GuestState.{GuestState, page, is_dead}
 use Rattle.isolation_law.specs.Needs.{Need, for_send, may_offer}
-use Rattle.isolation_law.specs.Surroundings.{Surroundings}
+use Rattle.isolation_law.specs.Surroundings.{Surroundings, cell_of_node}
 use Rattle.base_words.specs.declared.device.Transfer.{Transfer}
 use Rattle.guest_course.specs.Acting.{act_of, page_used}
 use Rattle.guest_course.specs.CourseView.{surroundings}
@@ -20,6 +19,12 @@ use Rattle.guest_course.specs.declared.site.Around.{Around}
 use Rattle.guest_core.specs.MoveCalls.{IsLayoutOf}
 use Rattle.guest_core.proofs.CountedCopies.{same-cells}
 use Rattle.guest_core.proofs.ShapeLemmas.{nodes-of}
+use Rattle.std.specs.Prelude.{slice_get, filter}
+use Rattle.private_machine.specs.Backing.{Copy, lies_on}
+use Rattle.node_frames.specs.BootOrder.{boot_nodes}
+use Rattle.isolation_law.specs.MoveRows.{LiesAlive}
+use Rattle.guest_core.specs.Sharing.{lives_on, spare_nodes}
+use Rattle.guest_core.proofs.CauseLemmas.{lies-alive}
 
 no-some : {A : Type 0} (a : A) → None ≡ Some a → ⊥
 no-some a e = cc
@@ -104,3 +109,34 @@ same-layout w a b x y =
     let frames : a.frames ≡ b.frames = x.frames ∙ sym y.frames in
     let cells = same-cells a.cells b.cells (x.cells ∙ sym y.cells) in
     λ i. record { nodes = nodes i; frames = frames i; cells = cells i }
+
+-- a node on which a spare is sought is of a cell that lives
+passes-at : (p : NodeId → Bool) (xs : List NodeId) (place : ℕ) (node : NodeId) → slice_get (filter p xs) place ≡ Some node → p node ≡ true
+passes-at p [] place node e = absurd (no-some node e)
+passes-at p (x ∷ xs) place node e = by (p x) refl place e (λ k later. passes-at p xs k node later)
+  where
+    same : (y z : NodeId) → Some y ≡ Some z → y ≡ z
+    same y z e = cc
+
+    by : (b : Bool) → p x ≡ b → (k : ℕ) → slice_get (cond b (x ∷ filter p xs) (filter p xs)) k ≡ Some node → ((k : ℕ) → slice_get (filter p xs) k ≡ Some node → p node ≡ true) → p node ≡ true
+    by true is zero e more = ap p (sym (same x node e)) ∙ is
+    by true is (suc k) e more = more k e
+    by false is k e more = more k e
+
+-- and it is one of the machine's
+pub nodes-kept : (p : NodeId → Bool) (n : ℕ) (xs : List NodeId) → ((k : ℕ) (d : NodeId) → k < length xs → (get_or xs k d).0 < n) → (k : ℕ) (d : NodeId) → k < length (filter p xs) → (get_or (filter p xs) k d).0 < n
+nodes-kept p n [] below k d lt = absurd (omega arith)
+nodes-kept p n (x ∷ xs) below k d lt = by (p x) k lt (λ j less. nodes-kept p n xs (λ i e under. below (suc i) e (omega arith)) j d less)
+  where
+    by : (b : Bool) (j : ℕ) → j < length (cond b (x ∷ filter p xs) (filter p xs)) → ((i : ℕ) → i < length (filter p xs) → (get_or (filter p xs) i d).0 < n) → (get_or (cond b (x ∷ filter p xs) (filter p xs)) j d).0 < n
+    by true zero less more = below 0 d (omega arith)
+    by true (suc j) less more = more j (omega arith)
+    by false j less more = more j less
+
+not-true : (b : Bool) → not b ≡ true → b ≡ false
+not-true true e = cc
+not-true false e = refl
+
+pub spare-alive : (s : GuestState) (layout : Layout) (order : List NodeId) (node : NodeId) (place : ℕ) (c : Copy) → order ≡ spare_nodes s layout → slice_get order place ≡ Some node → lies_on s.around.frames node.0 c ≡ true → LiesAlive s (Some c)
+spare-alive s layout order node place c is at lies =
+    lies-alive s node.0 c lies (not-true (is_dead s (cell_of_node s.around node.0)) (passes-at (lives_on s) (boot_nodes layout (record { 0 = s.around.home })) place node (subst (λ (l : List NodeId). slice_get l place ≡ Some node) is at)))

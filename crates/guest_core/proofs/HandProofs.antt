@@ -10,12 +10,12 @@ use Rattle.shootdown.specs.declared.notes.Note.{Note}
 use Rattle.shootdown.specs.declared.notes.Note.TheVariants as note
 use Rattle.shootdown.specs.declared.view.SidedNote.{SidedNote}
 use Rattle.shootdown.specs.Notes.{with_side}
-use Rattle.isolation_law.specs.GuestState.{GuestState, due_on, processor, vcpu_of}
+use Rattle.isolation_law.specs.GuestState.{GuestState, processor, vcpu_of}
 use Rattle.isolation_law.specs.PacketRows.{ComesToHand}
 use Rattle.isolation_law.specs.Phases.{GoesOn}
 use Rattle.isolation_law.specs.Run.{Run}
 use Rattle.isolation_law.specs.Start.{Boot, start as started}
-use Rattle.isolation_law.specs.Surroundings.{Surroundings, home_cell}
+use Rattle.isolation_law.specs.Surroundings.{Surroundings, home_cell, cell_of_frame}
 use Rattle.wire_queue.specs.Between.{Made, entry, guest_count, line_between, wire_between}
 use Rattle.wire_queue.specs.Ends.{Wire}
 use Rattle.wire_queue.specs.Lines.{FitsWhole, Line}
@@ -133,12 +133,14 @@ handed-home : (w : Surroundings) (line : Line) (packet : Packet) (handed : Hande
 handed-home w line packet handed terms own to some fits =
     let at = cell-found line.terms.cells (handed.frame / line.terms.frames) packet.cell fits.lies in
     let count : length line.terms.cells ≡ length w.nodes = sym (length-map line.terms.cells (λ (c : CellId). c.0)) ∙ ap length terms.cells in
+    let lies : cell_of_frame w handed.frame ≡ packet.cell = ap (λ (n : ℕ). slice_index w.nodes (handed.frame / n)) (sym terms.frames) ∙ ap (λ (l : List ℕ). slice_index l (handed.frame / line.terms.frames)) (sym terms.cells) ∙ at.1 in
     let below : handed.frame / w.frames < length w.nodes = subst (λ (n : ℕ). handed.frame / n < length w.nodes) terms.frames (omega (arith, at.0, count)) in
     let here : slice_get w.homes w.guest ≡ Some packet.cell = ap (λ (n : ℕ). slice_get w.homes n) (sym to) ∙ ap (λ (l : List ℕ). slice_get l line.to) (sym terms.homes) ∙ home-found line.terms.homes line.to packet.cell fits.home in
     record {
       full = fits.full;
       within = frame-below handed.frame w.frames (handed.frame / w.frames) (length w.nodes) some refl below;
-      home = ap (λ (n : ℕ). slice_index w.nodes (handed.frame / n)) (sym terms.frames) ∙ ap (λ (l : List ℕ). slice_index l (handed.frame / line.terms.frames)) (sym terms.cells) ∙ at.1 ∙ same-some _ _ (sym here ∙ own);
+      lies = lies;
+      home = lies ∙ same-some _ _ (sym here ∙ own);
     }
 
 -- a packet that is taken from a wire fits into the guest's hand

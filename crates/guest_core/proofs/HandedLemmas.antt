@@ -1,5 +1,5 @@
 -- What becomes of the packet in hand: it comes into its page, or a move begins for it first, once the frame that it hands on was asked for.
-use Rattle.std.proofs.Common.{◌≡◌, ⊎_elim, inl, inr, ℕ, Option, Some, None, Ok, Err, List, [], ◌∷◌, ◌++◌, refl, sym, ap, ◌∙◌, subst, arith}
+use Rattle.std.proofs.Common.{◌≡◌, ⊎_elim, inl, inr, ℕ, Option, Some, None, [], refl, sym, ◌∙◌, subst, arith}
 use Rattle.std.specs.Prelude.{◌≢◌, ◌⊎◌}
 use Rattle.std.proofs.lemmas.List.{append-nil}
 use Rattle.base_words.specs.declared.ids.Ppn.{Ppn}
@@ -11,7 +11,8 @@ use Rattle.wire_queue.specs.Packets.{Handed}
 use Rattle.guest_course.specs.Acting.{IsOwnDelivery}
 use Rattle.guest_core.specs.GuestView.{Monitored}
 use Rattle.guest_core.specs.Making.{Makes}
-use Rattle.guest_core.specs.PacketCalls.{AfterHand, BeginsByHand, BeginsForPacket, BeginsOver, ComesInto, CopiesPacket, Delivers, HasInHand, IsArmed, KeepsInHand, ReceivesNext, RefusesHanded, TakesHanded}
+use Rattle.guest_core.specs.PacketCalls.{AfterHand, BeginsByHand, BeginsForPacket, BeginsOver, ComesInto, CopiesPacket, Delivers, IsArmed, KeepsInHand, ReceivesNext, RefusesHanded, TakesHanded}
+use Rattle.guest_course.specs.ReceivingCalls.{HandLives}
 
 -- ---- the looks at a frame before
 
@@ -62,13 +63,14 @@ begun-seen old mid new q kind is b =
     let x : BeginsByHand (record old { view = mid.view }) q kind new = subst (λ (g : Monitored). BeginsByHand g q kind new) is b in
     record { makes = record { journal = x.makes.journal; run = x.makes.run }; hand = x.hand; handed = x.handed; not_ended = x.not_ended }
 
-begun : (old new : Monitored) (q : Ppn) (kind : MoveKind) → IsArmed old → old.state.hand ≢ None → old.state.devices.armed ≡ Some q.0 → BeginsOver kind old.handed new.state q.0 old.view new.view → AfterHand old new → BeginsByHand old q kind new → BeginsForPacket old q new
-begun old new q kind is-armed in-hand armed over after b = record {
+begun : (old new : Monitored) (q : Ppn) (kind : MoveKind) → IsArmed old → old.state.hand ≢ None → HandLives old.state → old.state.devices.armed ≡ Some q.0 → BeginsOver kind old.handed new.state q.0 old.view new.view → AfterHand old new → BeginsByHand old q kind new → BeginsForPacket old q new
+begun old new q kind is-armed in-hand live armed over after b = record {
   has = record {
     not_ended = is-armed.not_ended;
     goes_on = b.not_ended;
     armed = armed;
     in_hand = λ none. in-hand (sym b.hand ∙ none);
+    lives = λ packet is. live packet (sym b.hand ∙ is);
     hands_on = inl (in-hand, b.handed);
     notes = after.notes;
   };
@@ -78,17 +80,17 @@ begun old new q kind is-armed in-hand armed over after b = record {
 }
 
 -- the page is taken shared
-pub begun-shared : (old new : Monitored) (q : Ppn) → IsArmed old → old.state.hand ≢ None → old.state.devices.armed ≡ Some q.0 → AfterHand old new → TakesHanded old q new → BeginsForPacket old q new
-begun-shared old new q is-armed in-hand armed after t = begun old new q TakeShared is-armed in-hand armed t.over after t.begins
+pub begun-shared : (old new : Monitored) (q : Ppn) → IsArmed old → old.state.hand ≢ None → HandLives old.state → old.state.devices.armed ≡ Some q.0 → AfterHand old new → TakesHanded old q new → BeginsForPacket old q new
+begun-shared old new q is-armed in-hand live armed after t = begun old new q TakeShared is-armed in-hand live armed t.over after t.begins
 
 -- or no frame could be had, and it needs the move to be copied
-pub begun-copied : (old mid new : Monitored) (q : Ppn) (kind : MoveKind) → IsArmed old → old.state.hand ≢ None → old.state.devices.armed ≡ Some q.0 → (kind ≡ Break) ⊎ (kind ≡ Collapse) → RefusesHanded old mid → new.view ≡ mid.view → AfterHand mid new → BeginsByHand mid q kind new
+pub begun-copied : (old mid new : Monitored) (q : Ppn) (kind : MoveKind) → IsArmed old → old.state.hand ≢ None → HandLives old.state → old.state.devices.armed ≡ Some q.0 → (kind ≡ Break) ⊎ (kind ≡ Collapse) → RefusesHanded old mid → new.view ≡ mid.view → AfterHand mid new → BeginsByHand mid q kind new
     → BeginsForPacket old q new
-begun-copied old mid new q kind is-armed in-hand armed inside refuses view after b =
+begun-copied old mid new q kind is-armed in-hand live armed inside refuses view after b =
     let copies = subst (CopiesPacket old.handed old.view) (sym view) refuses.copies in
     let over : BeginsOver kind old.handed new.state q.0 old.view new.view =
     ⊎_elim (λ (e : kind ≡ Break). subst (λ (k : MoveKind). BeginsOver k old.handed new.state q.0 old.view new.view) (sym e) copies) (λ (e : kind ≡ Collapse). subst (λ (k : MoveKind). BeginsOver k old.handed new.state q.0 old.view new.view) (sym e) copies) inside in
-    begun old new q kind is-armed in-hand armed over (after-seen old mid new refuses.same after) (begun-seen old mid new q kind refuses.same b)
+    begun old new q kind is-armed in-hand live armed over (after-seen old mid new refuses.same after) (begun-seen old mid new q kind refuses.same b)
 
 -- ---- memory was wanting
 

@@ -1,10 +1,10 @@
 -- What an entry leaves of what the type of a guest keeps.
-use Rattle.std.proofs.Common.{◌≡◌, inl, inr, ℕ, zero, suc, ◌<◌, ◌≤◌, if◌then◌else◌, Bool, true, false, List, [], ◌∷◌, ◌++◌, Option, Some, None, option_map, length, map, get_or, set, refl, sym, ap, ◌∙◌, subst, arith}
+use Rattle.std.proofs.Common.{◌≡◌, inl, inr, ℕ, suc, ◌<◌, ◌≤◌, List, [], ◌∷◌, ◌++◌, Option, Some, None, length, refl, sym, ap, ◌∙◌, subst, arith}
 use Rattle.std.specs.Prelude.{All}
 use Rattle.std.proofs.lemmas.List.{append-nil}
 use Rattle.std.proofs.lemmas.List.Elements.{All-nil, All-cons}
 use Rattle.base_words.specs.declared.events.Event.{Event}
-use Rattle.base_words.specs.declared.events.Event.TheVariants.{Direct, Refill, Emulate, Begin, Ack, Finish, Load, Unload, PacketIn, Skip, End as Ending}
+use Rattle.base_words.specs.declared.events.Event.TheVariants.{Direct, Refill, Emulate, Begin, Ack, Finish, Load, Unload, PacketIn, Discard, Skip, CellFails, End as Ending}
 use Rattle.base_words.specs.declared.events.End.{End}
 use Rattle.base_words.specs.declared.ids.NodeId.{NodeId}
 use Rattle.base_words.specs.declared.ids.Ppn.{Ppn}
@@ -12,23 +12,16 @@ use Rattle.base_words.specs.declared.ids.ProcId.{ProcId}
 use Rattle.base_words.specs.declared.ids.VcpuId.{VcpuId}
 use Rattle.base_words.specs.declared.moves.By.{By}
 use Rattle.base_words.specs.declared.moves.MoveKind.{MoveKind}
-use Rattle.base_words.specs.declared.moves.Policy.{Policy}
-use Rattle.base_words.specs.declared.trap.DataAccess.{DataAccess}
 use Rattle.base_words.specs.declared.trap.DataAccess.TheVariants as at_data
 use Rattle.private_machine.specs.DeviceAct.{Act, StoresTo, ReadsDisk, WritesDisk, SendsPage, WritesEntry, NoAct}
-use Rattle.private_machine.specs.Policy.{Misses, choice}
 use Rattle.shootdown.specs.declared.view.SidedNote.{SidedNote}
-use Rattle.isolation_law.specs.Dues.{without_due, without_moving}
-use Rattle.isolation_law.specs.DirectStep.{data_noted, is_miss, misses_after}
-use Rattle.isolation_law.specs.EndRows.{Ends}
-use Rattle.isolation_law.specs.GuestState.{GuestState, processor, due_on}
+use Rattle.isolation_law.specs.EndRows.{Ends, CellFailsIn}
+use Rattle.isolation_law.specs.GuestState.{GuestState, processor}
 use Rattle.isolation_law.specs.LoadRows.{Loads, Unloads, Acks}
 use Rattle.isolation_law.specs.LoadsIn.{loaded_after}
 use Rattle.isolation_law.specs.MachineEvent.{Row}
 use Rattle.isolation_law.specs.MoveRows.{Begins, Finishes}
-use Rattle.isolation_law.specs.PacketRows.{EndsDelivery, Receives}
-use Rattle.isolation_law.specs.Parts.{Wish}
-use Rattle.isolation_law.specs.Policy.{chosen, due_after}
+use Rattle.isolation_law.specs.PacketRows.{EndsDelivery, Receives, Discards}
 use Rattle.isolation_law.specs.RefillRow.{Refills}
 use Rattle.isolation_law.specs.SkipRow.{Skips}
 use Rattle.isolation_law.specs.Start.{Boot, start as started}
@@ -40,6 +33,7 @@ use Rattle.guest_core.specs.Noting.{HoldsOf}
 use Rattle.guest_core.specs.Laws.{MoveLaws, RowLaws, RunLaws}
 use Rattle.guest_core.proofs.CountLemmas.{count-same, count-loaded, count-unloaded}
 use Rattle.guest_core.proofs.NoteLemmas.{noted-entry, noted-answer}
+use Rattle.base_words.specs.declared.ids.CellId.{CellId}
 
 -- the note of an entry is of a processor that is there
 abbrev pub AreThere : GuestState → List SidedNote → Type 0
@@ -138,6 +132,12 @@ receive-due w m s t k row = omega (arith, as-many w s t (PacketIn k) (inl row) (
 
 pub ended-due : RowLaws → MoveLaws → (s t : GuestState) (k : ℕ) → EndsDelivery s k t → suc (entries_due t) ≡ entries_due s
 ended-due w m s t k row = omega (arith, as-many w s t (PacketIn k) (inr row) (λ r. refl), m.ends_delivery s t k row)
+
+pub discard-due : RowLaws → MoveLaws → (s t : GuestState) (k : ℕ) → Discards s k t → entries_due t ≡ entries_due s
+discard-due w m s t k row = omega (arith, as-many w s t (Discard k) row (λ r. refl), m.discards s t k row)
+
+pub fail-due : RowLaws → MoveLaws → (s t : GuestState) (c : CellId) → CellFailsIn s c.0 t → entries_due t ≡ entries_due s
+fail-due w m s t c row = omega (arith, as-many w s t (CellFails c) row (λ r. refl), m.fails s t c.0 row)
 
 pub skip-due : RowLaws → MoveLaws → (s t : GuestState) (k : ℕ) → Skips s k t → entries_due t ≡ entries_due s
 skip-due w m s t k row = omega (arith, as-many w s t (Skip k) row (λ r. refl), m.skips s t k row)

@@ -10,13 +10,12 @@ use Rattle.base_words.specs.declared.events.Event.TheVariants.{Emulate, Finish, 
 use Rattle.base_words.specs.declared.events.End.TheVariants.{Halted as ByHalt}
 use Rattle.base_words.specs.declared.ids.ProcId.{ProcId}
 use Rattle.base_words.specs.declared.ids.VcpuId.{VcpuId}
-use Rattle.private_machine.specs.Backing.{Change, Migrates, Replicates, Collapses, Breaks, TakesShared, GivesShared, Copy, Move, Page, no_page, page_at}
+use Rattle.private_machine.specs.Backing.{Change, Migrates, Replicates, Collapses, Breaks, TakesShared, GivesShared, Move, Page, no_page, page_at}
 use Rattle.page_moves.specs.Ending.{IsTaking}
 use Rattle.pmap_table.specs.PageMap.{PageMap, is_moving}
 use Rattle.shootdown.specs.declared.view.SidedNote.{SidedNote}
 use Rattle.isolation_law.specs.EndRows.{is_taking, takes}
 use Rattle.isolation_law.specs.GuestState.{GuestState}
-use Rattle.isolation_law.specs.MachineEvent.{Row}
 use Rattle.isolation_law.specs.PacketRows.{ComesToHand}
 use Rattle.isolation_law.specs.Parts.{SkipEntry}
 use Rattle.isolation_law.specs.Run.{Run, Silent}
@@ -137,7 +136,7 @@ abbrev pub AllQuiet : List Event → Type 0
 AllQuiet [] = Unit {0}
 AllQuiet (e ∷ more) = NoNote e × AllQuiet more
 
-kept-silent : Grows → (b : Boot) (s t : GuestState) (journal : List Event) (notes : List SidedNote) → Kept b s journal notes → Silent s t → Kept b t journal notes
+pub kept-silent : Grows → (b : Boot) (s t : GuestState) (journal : List Event) (notes : List SidedNote) → Kept b s journal notes → Silent s t → Kept b t journal notes
 kept-silent grows b s t journal notes k silent =
     ⊎_elim (λ (e : t ≡ s). subst (λ (x : GuestState). Kept b x journal notes) (sym e) k) (λ (c : ComesToHand s t). kept-comes grows b s t journal notes k c) silent
 

@@ -33,3 +33,4 @@ pub mod HandedLemmas
 pub mod PacketLemmas
 pub mod DoneLemmas
 pub mod EndLemmas
+pub mod FailLemmas

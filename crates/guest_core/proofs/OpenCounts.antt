@@ -1,5 +1,5 @@
 -- How many pages have a move, and what room is left for a guest's calls.
-use Rattle.std.proofs.Common.{◌≡◌, ℕ, zero, suc, ◌+◌, ◌-◌, ◌<◌, ◌≤◌, min, cond, if◌then◌else◌, List, [], ◌∷◌, Option, length, get_or, set, refl, sym, ap, ◌∙◌, arith}
+use Rattle.std.proofs.Common.{◌≡◌, ℕ, zero, suc, ◌+◌, ◌-◌, ◌≤◌, min, cond, List, [], ◌∷◌, Option, get_or, set, refl, sym, ap, ◌∙◌, arith}
 use Rattle.std.specs.Prelude.{count_by, is_some}
 use Rattle.std.specs.Vec.{vec_len, vec_capacity}
 use Rattle.std.proofs.lemmas.List.Sums.{sum_by-cons, sum_by-set}
@@ -47,9 +47,10 @@ less-of a b a' b' x y = omega (arith, x, y)
 pub calls-less : (c d : Course) → c.devs.print_room ≤ d.devs.print_room + 1 → c.devs.send_room ≤ d.devs.send_room + 1
     → vec_capacity c.sent_from - vec_len c.sent_from ≤ (vec_capacity d.sent_from - vec_len d.sent_from) + 1
     → vec_capacity c.received - vec_len c.received ≤ (vec_capacity d.received - vec_len d.received) + 1
+    → vec_capacity c.discarded - vec_len c.discarded ≤ (vec_capacity d.discarded - vec_len d.discarded) + 1
     → c.pmap.room ≤ d.pmap.room + 1 → vec_capacity c.skips - vec_len c.skips ≤ (vec_capacity d.skips - vec_len d.skips) + 1 → calls_room c ≤ calls_room d + 1
-calls-less c d print send cells received begins skips =
-    less-of _ _ _ _ (less-of _ _ _ _ print send) (less-of _ _ _ _ (less-of _ _ _ _ cells received) (less-of _ _ _ _ begins skips))
+calls-less c d print send cells received discarded begins skips =
+    less-of _ _ _ _ (less-of _ _ _ _ print send) (less-of _ _ _ _ (less-of _ _ _ _ cells (less-of _ _ _ _ received discarded)) (less-of _ _ _ _ begins skips))
 
 pub no-less : (a b : ℕ) → b ≡ a → a ≤ b + 1
 no-less a b is = omega (arith, is)

@@ -1,10 +1,9 @@
 -- A packet that comes to hand goes without an entry, so what becomes of it then is what becomes of the packets.
-use Rattle.std.proofs.Common.{◌≡◌, ⊎_elim, inl, inr, ℕ, Option, None, Result, Ok, Err, true, List, [], ◌∷◌, ◌++◌, length, sym, ap, ◌∙◌, subst}
-use Rattle.std.specs.Prelude.{◌≢◌, ◌⊎◌}
+use Rattle.std.proofs.Common.{◌≡◌, ⊎_elim, inl, inr, ℕ, Option, None, Result, Ok, Err, true, List, [], ◌∷◌, ◌++◌, length, sym, ap, ◌∙◌, subst, Bool, false, get_or}
+use Rattle.std.specs.Prelude.{◌≢◌, ◌⊎◌, IsErr}
 use Rattle.std.specs.declared.alloc.AllocError.{AllocError}
 use Rattle.base_words.specs.declared.events.Event.{Event}
-use Rattle.base_words.specs.declared.events.Event.TheVariants.{PacketIn, Begin, Finish}
-use Rattle.base_words.specs.declared.ids.Ppn.{Ppn}
+use Rattle.base_words.specs.declared.events.Event.TheVariants.{PacketIn, Begin, Finish, Discard}
 use Rattle.base_words.specs.declared.moves.By.TheVariants.{Packet as ByPacket}
 use Rattle.frame_words.specs.declared.view.View.{View}
 use Rattle.private_machine.specs.Backing.{Page}
@@ -17,10 +16,10 @@ use Rattle.isolation_law.specs.Surroundings.{Surroundings}
 use Rattle.wire_queue.specs.Packets.{Handed}
 use Rattle.wire_queue.specs.declared.lists.PassList.{PassList}
 use Rattle.guest_course.specs.Acting.{IsOwnDelivery}
-use Rattle.guest_core.specs.GuestView.{Monitored}
+use Rattle.guest_core.specs.GuestView.{Monitored, IsSameGuest}
 use Rattle.guest_core.specs.Making.{Makes}
 use Rattle.guest_core.specs.MoveCalls.{is_done}
-use Rattle.guest_core.specs.PacketCalls.{BeginsOver, ComesInto, CopiesPacket, Fetches, HandsOn, HasInHand, IsArmed, TakesFromWire, TakesPacket}
+use Rattle.guest_core.specs.PacketCalls.{BeginsOver, ComesInto, CopiesPacket, Fetches, HandsOn, HasInHand, IsArmed, TakesFromWire, TakesPacket, KeepsInHand}
 use Rattle.guest_core.specs.declared.answers.Packeted.{Packeted}
 use Rattle.guest_core.specs.declared.answers.Packeted.TheVariants as packeted
 
@@ -29,17 +28,21 @@ record Same (s m : GuestState) : Type 0 where
   end : m.end ≡ s.end
   devices : m.devices ≡ s.devices
   received : m.received ≡ s.received
+  discarded : m.discarded ≡ s.discarded
+  dead : m.dead ≡ s.dead
   around : m.around ≡ s.around
   pages : m.pages ≡ s.pages
 
 silent-same : (s m : GuestState) → Silent s m → Same s m
 silent-same s m silent =
     ⊎_elim
-    (λ (e : m ≡ s). record { end = ap (λ (x : GuestState). x.end) e; devices = ap (λ (x : GuestState). x.devices) e; received = ap (λ (x : GuestState). x.received) e; around = ap (λ (x : GuestState). x.around) e; pages = ap (λ (x : GuestState). x.pages) e })
+    (λ (e : m ≡ s). record { end = ap (λ (x : GuestState). x.end) e; devices = ap (λ (x : GuestState). x.devices) e; received = ap (λ (x : GuestState). x.received) e; discarded = ap (λ (x : GuestState). x.discarded) e; dead = ap (λ (x : GuestState). x.dead) e; around = ap (λ (x : GuestState). x.around) e; pages = ap (λ (x : GuestState). x.pages) e })
     (λ (x : ComesToHand s m). record {
       end = ap (λ (y : GuestState). y.end) x.after;
       devices = ap (λ (y : GuestState). y.devices) x.after;
       received = ap (λ (y : GuestState). y.received) x.after;
+      discarded = ap (λ (y : GuestState). y.discarded) x.after;
+      dead = ap (λ (y : GuestState). y.dead) x.after;
       around = ap (λ (y : GuestState). y.around) x.after;
       pages = ap (λ (y : GuestState). y.pages) x.after;
     })
@@ -87,6 +90,7 @@ then-has old mid new q f full passes has =
       goes_on = has.goes_on;
       armed = sym (ap (λ (d : DevicePage). d.armed) same.devices) ∙ has.armed;
       in_hand = has.in_hand;
+      lives = λ packet is. ap (λ (l : List Bool). get_or l packet.cell false) (sym same.dead) ∙ has.lives packet is;
       hands_on = then-hands old mid new.passes new.handed f full passes has.hands_on;
       notes = has.notes ∙ f.quiet.notes;
     }
@@ -99,7 +103,7 @@ then-comes old mid new q handed f comes =
     (λ (x : IsOwnDelivery mid.state q). inr (own-back old.state mid.state q f.silent x))
     comes
 
-armed-then : (old mid : Monitored) → Fetches old mid → IsArmed old → IsArmed mid
+pub armed-then : (old mid : Monitored) → Fetches old mid → IsArmed old → IsArmed mid
 armed-then old mid f armed =
     let same = silent-same old.state mid.state f.silent in
     record { not_ended = same.end ∙ armed.not_ended; armed = λ none. armed.armed (sym (ap (λ (d : DevicePage). d.armed) same.devices) ∙ none) }
@@ -122,6 +126,20 @@ then-takes old mid new (Ok packeted.Delivered) armed f full passes takes =
         disarmed = d.disarmed;
       },
     )
+then-takes old mid new (Ok (packeted.Discarded cell)) armed f full passes takes =
+    let same = silent-same old.state mid.state f.silent in
+    record {
+      armed = armed;
+      notes = takes.notes ∙ f.quiet.notes;
+      view = takes.view ∙ f.quiet.view;
+      packet = takes.packet;
+      of_cell = takes.of_cell;
+      dead = ap (λ (l : List Bool). get_or l cell.0 false) (sym same.dead) ∙ takes.dead;
+      thrown = takes.thrown ∙ ap (λ (l : List Packet). l ++ takes.packet ∷ []) same.discarded;
+      makes = subst (λ (l : List Packet). Makes old (Discard (length l) ∷ []) new) same.discarded (then-makes old mid new (Discard (length mid.state.discarded) ∷ []) f full takes.makes);
+      not_ended = takes.not_ended;
+      free = takes.free;
+    }
 then-takes old mid new (Ok (packeted.Begun q)) armed f full passes takes =
     let same = silent-same old.state mid.state f.silent in
     record {
@@ -151,3 +169,20 @@ then-takes old mid new (Err e) armed f full passes takes = record {
   makes = then-makes old mid new [] f full takes.makes;
   in_hand = takes.in_hand;
 }
+
+-- the guest is the same one after both
+pub then-same : (old mid new : Monitored) → IsSameGuest old mid → IsSameGuest mid new → IsSameGuest old new
+then-same old mid new a b = record {
+  number = b.number ∙ a.number;
+  start = b.start ∙ a.start;
+  disk = b.disk ∙ a.disk;
+  board = b.board ∙ a.board;
+  table = b.table ∙ a.table;
+  wires = b.wires ∙ a.wires;
+  own = b.own ∙ a.own;
+}
+
+-- memory was wanting, with the packet in hand
+pub takes-err : (old new : Monitored) (answer : Result Packeted AllocError) → IsErr answer → KeepsInHand old new → TakesPacket old new answer
+takes-err old new (Ok packeted) is keeps = absurd cc
+takes-err old new (Err e) is keeps = keeps

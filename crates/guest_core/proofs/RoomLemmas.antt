@@ -21,6 +21,7 @@ pub record HasRoom (c : Course) : Type 0 where
   pub send_room : 0 < c.devs.send_room
   pub cells : vec_len c.sent_from < vec_capacity c.sent_from
   pub received : vec_len c.received < vec_capacity c.received
+  pub discarded : vec_len c.discarded < vec_capacity c.discarded
   pub begins : 0 < c.pmap.room
   pub skips : vec_len c.skips < vec_capacity c.skips
 
@@ -36,12 +37,14 @@ has-room free c room =
     let devs = either _ _ all.0 in
     let lists = either _ _ all.1 in
     let packets = either _ _ lists.0 in
+    let comes = either _ _ packets.1 in
     let moves = either _ _ lists.1 in
     record {
       print_room = devs.0;
       send_room = devs.1;
       cells = below _ _ packets.0;
-      received = below _ _ packets.1;
+      received = below _ _ comes.0;
+      discarded = below _ _ comes.1;
       begins = moves.0;
       skips = below _ _ moves.1;
     }
@@ -71,6 +74,7 @@ pub record UsesCall (c d : Course) : Type 0 where
   pub send_room : c.devs.send_room ≤ d.devs.send_room + 1
   pub cells : vec_capacity c.sent_from - vec_len c.sent_from ≤ (vec_capacity d.sent_from - vec_len d.sent_from) + 1
   pub received : vec_capacity c.received - vec_len c.received ≤ (vec_capacity d.received - vec_len d.received) + 1
+  pub discarded : vec_capacity c.discarded - vec_len c.discarded ≤ (vec_capacity d.discarded - vec_len d.discarded) + 1
   pub begins : c.pmap.room ≤ d.pmap.room + 1
   pub skips : vec_capacity c.skips - vec_len c.skips ≤ (vec_capacity d.skips - vec_len d.skips) + 1
 
@@ -80,16 +84,17 @@ pub record KeepsCalls (c d : Course) : Type 0 where
   pub send_room : d.devs.send_room ≡ c.devs.send_room
   pub cells : d.sent_from ≡ c.sent_from
   pub received : d.received ≡ c.received
+  pub discarded : d.discarded ≡ c.discarded
   pub begins : c.pmap.room ≤ d.pmap.room
   pub skips : d.skips ≡ c.skips
 
 calls-used : (c d : Course) → UsesCall c d → calls_room c ≤ calls_room d + 1
-calls-used c d u = least-used _ _ _ _ (least-used _ _ _ _ u.print_room u.send_room) (least-used _ _ _ _ (least-used _ _ _ _ u.cells u.received) (least-used _ _ _ _ u.begins u.skips))
+calls-used c d u = least-used _ _ _ _ (least-used _ _ _ _ u.print_room u.send_room) (least-used _ _ _ _ (least-used _ _ _ _ u.cells (least-used _ _ _ _ u.received u.discarded)) (least-used _ _ _ _ u.begins u.skips))
 
 calls-kept : (c d : Course) → KeepsCalls c d → calls_room c ≤ calls_room d
 calls-kept c d k =
     least-kept _ _ _ _ (least-kept _ _ _ _ (omega (arith, k.print_room)) (omega (arith, k.send_room)))
-    (least-kept _ _ _ _ (least-kept _ _ _ _ (still (λ v. vec_capacity v - vec_len v) _ _ k.cells) (still (λ v. vec_capacity v - vec_len v) _ _ k.received))
+    (least-kept _ _ _ _ (least-kept _ _ _ _ (still (λ v. vec_capacity v - vec_len v) _ _ k.cells) (least-kept _ _ _ _ (still (λ v. vec_capacity v - vec_len v) _ _ k.received) (still (λ v. vec_capacity v - vec_len v) _ _ k.discarded)))
     (least-kept _ _ _ _ k.begins (still (λ v. vec_capacity v - vec_len v) _ _ k.skips)))
 
 pub less-room : (room due calls room' due' calls' : ℕ) → room + due' ≤ room' + due + 2 → calls ≤ calls' + 1 → min (room - due) (2 * calls) ≤ min (room' - due') (2 * calls') + 2
@@ -114,6 +119,7 @@ as-used c d k =
       send_room = omega (arith, k.send_room);
       cells = one-at-most (λ v. vec_capacity v - vec_len v) _ _ k.cells;
       received = one-at-most (λ v. vec_capacity v - vec_len v) _ _ k.received;
+      discarded = one-at-most (λ v. vec_capacity v - vec_len v) _ _ k.discarded;
       begins = omega (arith, k.begins);
       skips = one-at-most (λ v. vec_capacity v - vec_len v) _ _ k.skips;
     }

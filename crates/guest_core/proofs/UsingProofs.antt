@@ -6,7 +6,6 @@ use Rattle.std.proofs.lemmas.List.{length-map}
 use Rattle.std.proofs.lemmas.List.Elements.{All-nil, All-cons}
 use Rattle.std.proofs.lemmas.List.Sums.{sum_by-cons}
 use Rattle.base_words.specs.Limits.{most_cells}
-use Rattle.base_words.specs.declared.events.End.{End}
 use Rattle.base_words.specs.declared.events.Event.{Event}
 use Rattle.base_words.specs.declared.frame.Frame.{Frame}
 use Rattle.base_words.specs.declared.frame.Shape.{Shape}
@@ -18,7 +17,6 @@ use Rattle.cell_depend.specs.Events.{Leaves}
 use Rattle.private_machine.specs.Backing.{Copy}
 use Rattle.private_machine.specs.PageMove.{held_for}
 use Rattle.isolation_law.specs.CellUse.{held}
-use Rattle.isolation_law.specs.EndRows.{Ends}
 use Rattle.isolation_law.specs.Exchange.{Exchanged, count_of}
 use Rattle.isolation_law.specs.GuestState.{GuestState, processor}
 use Rattle.isolation_law.specs.LoadRows.{Loads, Unloads, unloaded}

@@ -4,14 +4,14 @@ use Rattle.std.proofs.lemmas.List.{append-nil, map-append, length-map}
 use Rattle.std.proofs.lemmas.List.Elements.{All-nil, All-cons, All-append, filter-append}
 use Rattle.std.proofs.lemmas.Bool.{eqb-true, eqb-false}
 use Rattle.base_words.specs.declared.events.Event.{Event}
-use Rattle.base_words.specs.declared.events.Event.TheVariants.{PacketIn}
+use Rattle.base_words.specs.declared.events.Event.TheVariants.{PacketIn, Discard}
 use Rattle.private_machine.specs.Operation.{Packet}
 use Rattle.private_machine.specs.Packet.{came_into}
 use Rattle.private_machine.specs.PrivateMachine.{PrivateMachine}
 use Rattle.isolation_law.specs.Content.{content}
 use Rattle.isolation_law.specs.GuestState.{GuestState}
 use Rattle.isolation_law.specs.LoadRows.{Loads, Unloads}
-use Rattle.isolation_law.specs.PacketRows.{ComesToHand, EndsDelivery, Receives}
+use Rattle.isolation_law.specs.PacketRows.{ComesToHand, EndsDelivery, Receives, Discards}
 use Rattle.isolation_law.specs.Start.{Boot, start as started}
 use Rattle.isolation_law.specs.WireHistory.{packets_to, sent_to, AreAccepted, taken_by, taken, is_from, taken_from, Tells, TakesNothing}
 use Rattle.isolation_law.specs.Surroundings.{Surroundings}
@@ -245,6 +245,15 @@ posted-ended w s t journal k passes p row =
       sent = λ to end is. subst (λ (l : List Packet). AreAccepted 0 l (map shown end.accepted)) (sym (λ i. packets_to (around i).guest to (sent i) (cells i))) (p.sent to end is);
       taken = λ from. p.taken from ∙ ap (filter (is_from from)) (sym (w.ended s t journal k p.tells row));
     }
+
+-- ---- what is thrown away
+
+pub posted-discarded : TakeLaws → (s t : GuestState) (journal : List Event) (k : ℕ) (passes : PassList) → Posted s journal passes → Discards s k t → Posted t (journal ++ Discard k ∷ []) passes
+posted-discarded w s t journal k passes p row = record {
+  tells = w.tells_discarded s t journal k p.tells row;
+  sent = λ to end is. subst (λ (x : GuestState). AreAccepted 0 (sent_to x to) (map shown end.accepted)) (sym row.after) (p.sent to end is);
+  taken = λ from. p.taken from ∙ ap (filter (is_from from)) (sym (w.discarded s t journal k p.tells row));
+}
 
 -- ---- single entries
 

@@ -8,14 +8,14 @@ use Rattle.frame_words.specs.declared.view.View.{View}
 use Rattle.node_frames.specs.declared.answers.FindFault.{FindFault}
 use Rattle.node_frames.specs.declared.answers.FindFault.TheVariants.{Memory, NoFrame}
 use Rattle.private_machine.specs.Backing.{Copy, Change, lies_on}
-use Rattle.private_machine.specs.PageMove.{kind_of, gained}
+use Rattle.private_machine.specs.PageMove.{kind_of, gained, target_of}
 use Rattle.pmap_table.specs.Ending.{numbers_of}
 use Rattle.pmap_table.specs.Frames.{copy_of}
 use Rattle.pmap_table.specs.OpenMoves.{FitsChange}
 use Rattle.isolation_law.specs.CellUse.{held, used_frames}
 use Rattle.isolation_law.specs.GuestState.{GuestState, page}
 use Rattle.isolation_law.specs.Holdings.{AllDifferent, nodes_of}
-use Rattle.isolation_law.specs.MoveRows.{Fits, IsForeign}
+use Rattle.isolation_law.specs.MoveRows.{Fits, IsForeign, LiesAlive}
 use Rattle.isolation_law.specs.Parts.{Wish}
 use Rattle.guest_core.specs.Holding.{HoldsCopies, IsHolding}
 use Rattle.guest_core.specs.MoveCalls.{FindsFrame, NodesShow}
@@ -50,6 +50,7 @@ pub record HasTaken (s : GuestState) (lends : List ℕ) (order : List NodeId) (f
 pub record HasTakenFor (s : GuestState) (wish : Wish) (change : Change) (view : View) (uses : UsesState) : Type 0 where
   pub is_kind : kind_of change ≡ wish.kind
   pub fits : Fits s wish.node change None s.spares
+  pub lives : LiesAlive s (target_of change)
   pub fits_page : FitsChange (page s wish.page) change
   pub held_too : HoldsCopies s.around (gained change ++ held s) view
   pub counted_too : CountsCopies s (gained change ++ used_frames s) uses

@@ -9,11 +9,11 @@ use Rattle.base_words.specs.declared.events.End.{End}
 use Rattle.base_words.specs.declared.events.End.TheVariants.{Halted as ByHalt, Budget}
 use Rattle.base_words.specs.declared.trap.Access.{Access}
 use Rattle.shootdown.specs.declared.notes.Note.{Note}
-use Rattle.shootdown.specs.declared.notes.Note.TheVariants.{Made, Halted, Ended}
+use Rattle.shootdown.specs.declared.notes.Note.TheVariants.{Made, Halted, Ended, Dead}
 use Rattle.shootdown.specs.Notes.{Token, sided}
 use Rattle.frame_words.specs.declared.view.View.{View}
 use Rattle.private_machine.specs.Backing.{Page}
-use Rattle.isolation_law.specs.GuestState.{GuestState, processor, vcpu_of}
+use Rattle.isolation_law.specs.GuestState.{GuestState, processor, vcpu_of, is_dead}
 use Rattle.isolation_law.specs.MachineEvent.{Row}
 use Rattle.isolation_law.specs.Phases.{all_halted}
 use Rattle.isolation_law.specs.StepAct.{at_hand}
@@ -33,6 +33,7 @@ use Rattle.guest_core.specs.declared.answers.Loaded.{Loaded}
 use Rattle.guest_core.specs.declared.answers.Loaded.TheVariants as loaded
 use Rattle.guest_core.specs.declared.answers.Turn.{Turn}
 use Rattle.guest_core.specs.declared.answers.Turn.TheVariants as turn
+use Rattle.isolation_law.specs.Surroundings.{cell_of_processor}
 
 -- the seat's notes and the token's grew by these
 pub record Learns (old : Monitored) (token : Token) (told : List Note) (new : Monitored) (token_after : Token) : Type 0 where
@@ -67,8 +68,16 @@ loaded_on g token = record { 0 = unwrap_or (processor g.state token.number).load
 
 -- ---- load
 
-pub record IsLoadedOn (old : Monitored) (v q : ℕ) (new : Monitored) : Type 0 where
+-- the processor's cell has failed
+pub record FindsDead (old : Monitored) (p cell : ℕ) (new : Monitored) : Type 0 where
   pub not_ended : old.state.end ≡ None
+  pub own : cell ≡ cell_of_processor old.start.around p
+  pub dead : is_dead old.state cell ≡ true
+  pub rests : Rests old new
+
+pub record IsLoadedOn (old : Monitored) (p v q : ℕ) (new : Monitored) : Type 0 where
+  pub not_ended : old.state.end ≡ None
+  pub lives : is_dead old.state (cell_of_processor old.state.around p) ≡ false
   pub there : (processor old.state q).loaded ≡ Some v
   pub rests : Rests old new
 
@@ -78,12 +87,14 @@ pub record HasEnded (old : Monitored) (end : End) (new : Monitored) : Type 0 whe
 
 abbrev pub LoadsVcpu : Monitored → ProcId → VcpuId → Monitored → Loaded → Type 0
 LoadsVcpu old p v new loaded.Done = MakesAlone old (Load p v ∷ []) new
-LoadsVcpu old p v new (loaded.On q) = IsLoadedOn old v.0 q.0 new
+LoadsVcpu old p v new (loaded.On q) = IsLoadedOn old p.0 v.0 q.0 new
+LoadsVcpu old p v new (loaded.Dead cell) = FindsDead old p.0 cell.0 new
 LoadsVcpu old p v new (loaded.Ended end) = HasEnded old end new
 
 abbrev pub told_of_load : ProcId → VcpuId → Loaded → List Note
 told_of_load p v loaded.Done = Made (Load p v) ∷ []
 told_of_load p v (loaded.On q) = []
+told_of_load p v (loaded.Dead cell) = Dead cell ∷ []
 told_of_load p v (loaded.Ended end) = Ended end ∷ []
 
 -- ---- turn

@@ -56,10 +56,13 @@ open_count s = count_by is_moving s.pages
 abbrev pub entries_due : GuestState → ℕ
 entries_due s = loaded_count s + open_count s
 
--- for how many calls all but the journal has room: each may print a byte, send a packet, with its cell, receive one, begin a move, and
--- note one that isn't begun
+-- for how many calls all but the journal has room: each may print a byte, send a packet, with its cell, receive one or throw one away,
+-- begin a move, and note one that isn't begun
+abbrev pub comes_room : Course → ℕ
+comes_room c = min (vec_capacity c.received - vec_len c.received) (vec_capacity c.discarded - vec_len c.discarded)
+
 abbrev pub packets_room : Course → ℕ
-packets_room c = min (vec_capacity c.sent_from - vec_len c.sent_from) (vec_capacity c.received - vec_len c.received)
+packets_room c = min (vec_capacity c.sent_from - vec_len c.sent_from) (comes_room c)
 
 abbrev pub moves_room : Course → ℕ
 moves_room c = min c.pmap.room (vec_capacity c.skips - vec_len c.skips)

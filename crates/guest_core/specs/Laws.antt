@@ -2,12 +2,12 @@
 use Rattle.std.specs.Prelude.{◌≡◌, ℕ, suc, ◌≤◌, List, [], ◌∷◌, ◌++◌, true, false, All, Some, length, flat_map}
 use Rattle.base_words.specs.declared.events.End.{End}
 use Rattle.base_words.specs.declared.events.Event.{Event}
-use Rattle.base_words.specs.declared.events.Event.TheVariants.{PacketIn}
+use Rattle.base_words.specs.declared.events.Event.TheVariants.{PacketIn, Discard}
 use Rattle.base_words.specs.declared.moves.By.{By}
 use Rattle.base_words.specs.declared.moves.MoveKind.{MoveKind}
 use Rattle.private_machine.specs.Operation.{Packet}
 use Rattle.isolation_law.specs.CellFailure.{end_by, failure_of, is_failure, EndsAs}
-use Rattle.isolation_law.specs.EndRows.{Ends, LetsGo}
+use Rattle.isolation_law.specs.EndRows.{Ends, LetsGo, CellFailsIn}
 use Rattle.isolation_law.specs.EntryTells.{skip_of, AddsSkips}
 use Rattle.isolation_law.specs.GuestState.{GuestState, processor, vcpu_of, is_dead}
 use Rattle.isolation_law.specs.LiveCells.{UsesLive}
@@ -15,7 +15,7 @@ use Rattle.isolation_law.specs.LoadRows.{Loads, Unloads, Acks}
 use Rattle.isolation_law.specs.LoadsIn.{loaded_after}
 use Rattle.isolation_law.specs.MachineEvent.{Row}
 use Rattle.isolation_law.specs.MoveRows.{Begins, Finishes}
-use Rattle.isolation_law.specs.PacketRows.{ComesToHand, EndsDelivery, Receives}
+use Rattle.isolation_law.specs.PacketRows.{ComesToHand, EndsDelivery, Receives, Discards}
 use Rattle.isolation_law.specs.Phases.{GoesOn}
 use Rattle.isolation_law.specs.RefillRow.{Refills}
 use Rattle.isolation_law.specs.Run.{Run}
@@ -63,6 +63,8 @@ pub record MoveLaws : Type 0 where
   pub receives : (s t : GuestState) (k : ℕ) → Receives s k t → open_count t ≡ open_count s
   pub ends_delivery : (s t : GuestState) (k : ℕ) → EndsDelivery s k t → suc (open_count t) ≡ open_count s
   pub skips : (s t : GuestState) (k : ℕ) → Skips s k t → open_count t ≡ open_count s
+  pub discards : (s t : GuestState) (k : ℕ) → Discards s k t → open_count t ≡ open_count s
+  pub fails : (s t : GuestState) (c : ℕ) → CellFailsIn s c t → open_count t ≡ open_count s
   pub ends : (s t : GuestState) (end : End) → Ends s end t → open_count t ≡ 0
 
 -- a packet that is sent is accepted, or the wire is full
@@ -70,7 +72,7 @@ pub record SendLaws : Type 0 where
   pub accepted : (sent accepted : List Packet) (p : Packet) → AreAccepted 0 sent accepted → AreAccepted 0 (sent ++ p ∷ []) (accepted ++ p ∷ [])
   pub full : (sent accepted : List Packet) (p : Packet) → 64 ≤ length accepted → AreAccepted 0 sent accepted → AreAccepted 0 (sent ++ p ∷ []) accepted
 
--- what was taken stays, with entries that tell of no packet and where the packet in hand is received, be it copied or not; and one that comes to hand is the last one taken
+-- what was taken stays, with entries that tell of no packet and where the packet in hand is received, be it copied or not, or thrown away; and one that comes to hand is the last one taken
 pub record TakeLaws : Type 0 where
   pub same : (s t : GuestState) (journal more : List Event) → TakesNothing s t → flat_map (taken_by s.received s.discarded) more ≡ [] → taken (journal ++ more) t ≡ taken journal s
   pub tells_same : (s t : GuestState) (journal : List Event) → TakesNothing s t → All (Tells s) journal → All (Tells t) journal
@@ -79,3 +81,5 @@ pub record TakeLaws : Type 0 where
   pub tells : (s t : GuestState) (journal : List Event) (k : ℕ) → All (Tells s) journal → Receives s k t → All (Tells t) (journal ++ PacketIn k ∷ [])
   pub ended : (s t : GuestState) (journal : List Event) (k : ℕ) → All (Tells s) journal → EndsDelivery s k t → taken (journal ++ PacketIn k ∷ []) t ≡ taken journal s
   pub tells_ended : (s t : GuestState) (journal : List Event) (k : ℕ) → All (Tells s) journal → EndsDelivery s k t → All (Tells t) (journal ++ PacketIn k ∷ [])
+  pub discarded : (s t : GuestState) (journal : List Event) (k : ℕ) → All (Tells s) journal → Discards s k t → taken (journal ++ Discard k ∷ []) t ≡ taken journal s
+  pub tells_discarded : (s t : GuestState) (journal : List Event) (k : ℕ) → All (Tells s) journal → Discards s k t → All (Tells t) (journal ++ Discard k ∷ [])

@@ -14,6 +14,7 @@ pub mod MoveCalls
 pub mod Frames
 pub mod Sharing
 pub mod GuestCalls
+pub mod FailCalls
 pub mod AskCalls
 pub mod PacketCalls
 pub mod Records

@@ -1,7 +1,7 @@
 -- Packets that come to a guest, by what its calls answer.
 use Rattle.std.specs.Prelude.{◌≡◌, ◌≢◌, ◌⊎◌, ℕ, List, [], ◌∷◌, ◌++◌, ◌+◌, ◌≤◌, length, Bool, true, false, Option, Some, None, Result, Ok, Err}
 use Rattle.std.specs.declared.alloc.AllocError.{AllocError}
-use Rattle.base_words.specs.declared.events.Event.TheVariants.{PacketIn, Begin, Finish}
+use Rattle.base_words.specs.declared.events.Event.TheVariants.{PacketIn, Begin, Finish, Discard}
 use Rattle.base_words.specs.declared.ids.Ppn.{Ppn}
 use Rattle.base_words.specs.declared.moves.By.TheVariants.{Packet as ByPacket}
 use Rattle.base_words.specs.declared.moves.MoveKind.{MoveKind}
@@ -10,7 +10,7 @@ use Rattle.frame_words.specs.FrameWords.{frame_word}
 use Rattle.frame_words.specs.Refusals.{AddsShare, AddsShareRefusal}
 use Rattle.frame_words.specs.declared.view.View.{View}
 use Rattle.private_machine.specs.Backing.{Copy, TakesShared}
-use Rattle.isolation_law.specs.GuestState.{GuestState, page}
+use Rattle.isolation_law.specs.GuestState.{GuestState, page, is_dead}
 use Rattle.isolation_law.specs.Run.{Silent}
 use Rattle.wire_queue.specs.ListSteps.{AsksInVain, SameEnds}
 use Rattle.wire_queue.specs.Packets.{Handed, packet_of}
@@ -24,6 +24,7 @@ use Rattle.guest_core.specs.MoveCalls.{HasWaiting, IsDoing, is_done, StillActs}
 use Rattle.guest_core.specs.Wiring.{others_of, TakesNext}
 use Rattle.guest_core.specs.declared.answers.Packeted.{Packeted}
 use Rattle.guest_core.specs.declared.answers.Packeted.TheVariants as packeted
+use Rattle.private_machine.specs.Operation.{Packet}
 
 -- a guest that hasn't ended waits for a packet
 pub record IsArmed (g : Monitored) : Type 0 where
@@ -123,12 +124,26 @@ pub record Delivers (old new : Monitored) : Type 0 where
   pub not_ended : new.state.end ≡ None
   pub disarmed : new.state.devices.armed ≡ None
 
--- a packet is in hand, which was there or came to hand, for the page that is armed
+-- a packet was thrown away, which was in hand or came to hand, as this cell of it has failed
+pub record DiscardsNext (old : Monitored) (cell : ℕ) (new : Monitored) : Type 0 where
+  pub armed : IsArmed old
+  pub notes : new.notes ≡ old.notes
+  pub view : new.view ≡ old.view
+  pub packet : Packet
+  pub of_cell : packet.cell ≡ cell
+  pub dead : is_dead old.state cell ≡ true
+  pub thrown : new.state.discarded ≡ old.state.discarded ++ packet ∷ []
+  pub makes : Makes old (Discard (length old.state.discarded) ∷ []) new
+  pub not_ended : new.state.end ≡ None
+  pub free : new.state.hand ≡ None
+
+-- a packet is in hand, which was there or came to hand and whose cell lives, for the page that is armed
 pub record HasInHand (old : Monitored) (q : ℕ) (new : Monitored) : Type 0 where
   pub not_ended : old.state.end ≡ None
   pub goes_on : new.state.end ≡ None
   pub armed : old.state.devices.armed ≡ Some q
   pub in_hand : new.state.hand ≢ None
+  pub lives : (packet : Packet) → new.state.hand ≡ Some packet → is_dead old.state packet.cell ≡ false
   pub hands_on : HandsOn old new.passes new.handed
   pub notes : new.notes ≡ old.notes
 
@@ -178,6 +193,7 @@ pub record KeepsInHand (old new : Monitored) : Type 0 where
 
 abbrev pub TakesPacket : Monitored → Monitored → Result Packeted AllocError → Type 0
 TakesPacket old new (Ok packeted.Delivered) = IsArmed old × Delivers old new
+TakesPacket old new (Ok (packeted.Discarded cell)) = DiscardsNext old cell.0 new
 TakesPacket old new (Ok (packeted.Begun q)) = BeginsForPacket old q new
 TakesPacket old new (Ok (packeted.Finished q)) = FinishesForPacket old q new
 TakesPacket old new (Ok (packeted.Waits q waiting)) = WaitsWithPacket old q waiting new

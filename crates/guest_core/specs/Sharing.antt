@@ -1,5 +1,5 @@
 -- Where a step shares a page with others, and why it copies it where it doesn't.
-use Rattle.std.specs.Prelude.{◌≡◌, ◌≢◌, ◌⊎◌, ℕ, true, false, List, [], ◌∷◌, Some, None}
+use Rattle.std.specs.Prelude.{◌≡◌, ◌⊎◌, ℕ, Bool, true, false, not, filter, List, [], ◌∷◌, Some, None}
 use Rattle.base_words.specs.declared.events.Event.TheVariants.{Begin}
 use Rattle.base_words.specs.declared.ids.Ppn.{Ppn}
 use Rattle.base_words.specs.declared.ids.ProcId.{ProcId}
@@ -17,16 +17,17 @@ use Rattle.node_frames.specs.Searches.{Finds, FindsNone}
 use Rattle.node_frames.specs.declared.answers.Shown.{Shown as Entry}
 use Rattle.private_machine.specs.Backing.{Copy, TakesShared, GivesShared}
 use Rattle.private_machine.specs.DeviceAct.{ReadsDisk, SendsPage}
-use Rattle.isolation_law.specs.GuestState.{GuestState, block, page}
+use Rattle.isolation_law.specs.GuestState.{GuestState, block, page, is_dead}
 use Rattle.isolation_law.specs.Needs.{Need, for_send, may_share_block}
 use Rattle.isolation_law.specs.StepAct.{at_hand}
-use Rattle.isolation_law.specs.Surroundings.{Surroundings, home_cell}
+use Rattle.isolation_law.specs.Surroundings.{home_cell, cell_of_node}
 use Rattle.guest_course.specs.Acting.{page_used, IsOwnRead}
 use Rattle.guest_course.specs.TakingCalls.{HasCode}
 use Rattle.guest_core.specs.Blocks.{blocks_of}
 use Rattle.guest_core.specs.GuestView.{Monitored, Shared}
 use Rattle.guest_core.specs.Making.{MakesAlone}
 use Rattle.guest_core.specs.MoveCalls.{IsAtRest, IsDoing, IsLayoutOf, StepIsOn}
+use Rattle.base_words.specs.declared.ids.NodeId.{NodeId}
 
 -- ---- disk reads
 
@@ -73,22 +74,30 @@ pub record TakesCopy (shared : Shared) (disk : ℕ) (s : GuestState) (v q : ℕ)
 
 -- ---- sends
 
--- no frame was found for a spare, at home first, then on the other nodes of the home cell, then on those of others
-pub record FindsNoSpare (w : Surroundings) (lends : List ℕ) (old new : View) : Type 0 where
+-- the nodes on which a spare is sought: the home node first, then the others of the home cell, then those of other cells, without those of
+-- cells that have failed
+abbrev pub lives_on : GuestState → NodeId → Bool
+lives_on s node = not (is_dead s (cell_of_node s.around node.0))
+
+abbrev pub spare_nodes : GuestState → Layout → List NodeId
+spare_nodes s layout = filter (lives_on s) (boot_nodes layout (record { 0 = s.around.home }))
+
+-- no frame was found for a spare
+pub record FindsNoSpare (s : GuestState) (lends : List ℕ) (old new : View) : Type 0 where
   pub layout : Layout
-  pub lies : IsLayoutOf w layout
+  pub lies : IsLayoutOf s.around layout
   pub shown : List Entry
-  pub finds : FindsNone layout lends (home_cell w) (boot_nodes layout (record { 0 = w.home })) shown old new
+  pub finds : FindsNone layout lends (home_cell s.around) (spare_nodes s layout) shown old new
 
 -- this one was found so
-pub record FindsSpare (w : Surroundings) (lends : List ℕ) (spare : Copy) (old new : View) : Type 0 where
+pub record FindsSpare (s : GuestState) (lends : List ℕ) (spare : Copy) (old new : View) : Type 0 where
   pub layout : Layout
-  pub lies : IsLayoutOf w layout
-  pub finds : Finds layout lends (home_cell w) (boot_nodes layout (record { 0 = w.home })) spare.frame spare.generation old new
+  pub lies : IsLayoutOf s.around layout
+  pub finds : Finds layout lends (home_cell s.around) (spare_nodes s layout) spare.frame spare.generation old new
 
 -- where the page of the send at hand could be given before it, it is sent as it is as no frame was found for that
 abbrev pub SendsPlain : Shared → GuestState → ℕ → View → View → Type 0
-SendsPlain shared s v old new = (q length to : ℕ) (need : Need) → at_hand s v ≡ SendsPage q length to → for_send s true q length to ≡ Some need → FindsNoSpare s.around shared.table.terms.lends old new
+SendsPlain shared s v old new = (q length to : ℕ) (need : Need) → at_hand s v ≡ SendsPage q length to → for_send s true q length to ≡ Some need → FindsNoSpare s shared.table.terms.lends old new
 
 -- ---- a step
 
@@ -104,7 +113,7 @@ pub record TakesBlock (shared : Shared) (disk : ℕ) (s : GuestState) (v q : ℕ
 
 pub record GivesWithSpare (shared : Shared) (s : GuestState) (q : ℕ) (t : GuestState) (old new : View) : Type 0 where
   pub spare : Copy
-  pub found : FindsSpare s.around shared.table.terms.lends spare old new
+  pub found : FindsSpare s shared.table.terms.lends spare old new
   pub into : IsDoing t q (GivesShared spare)
 
 -- which frames were asked for before this move began

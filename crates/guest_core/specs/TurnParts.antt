@@ -31,6 +31,7 @@ use Rattle.guest_core.specs.Making.{Makes, MakesAlone}
 use Rattle.guest_core.specs.Sharing.{BeginsForStep, Copies, FindsSpare, SendsPlain, TakesCopy}
 use Rattle.guest_core.specs.declared.sharing.Sharing.{Sharing}
 use Rattle.guest_core.specs.declared.sharing.Sharing.TheVariants as shares
+use Rattle.isolation_law.specs.MoveRows.{LiesAlive}
 
 -- the guest ends where its virtual processors have all halted
 abbrev pub Concludes : Bool → GuestState → GuestState → Type 0
@@ -48,6 +49,7 @@ pub record MayRun (s : GuestState) (v : ℕ) : Type 0 where
 pub record TakesPage (shared : Shared) (disk : ℕ) (s : GuestState) (v : ℕ) (act : DevAct) (b q : ℕ) (frame : SharedFrame) (old new : View) (uses : UsesState) : Type 0 where
   pub may : SharesBlock s v act b q
   pub bytes : (shared_copy_of frame).bytes ≡ (block s b).given
+  pub lives : LiesAlive s (Some (shared_copy_of frame))
   pub holds : HoldsToo s (shared_copy_of frame) new uses
   pub takes : TakesCopy shared disk s v q (shared_copy_of frame) old new
 
@@ -59,7 +61,8 @@ pub record GivesPage (shared : Shared) (s : GuestState) (v : ℕ) (act : DevAct)
   pub is_page : q < length s.pages
   pub order : List NodeId
   pub took : HasTaken s shared.table.terms.lends order frame old new after
-  pub spare : FindsSpare s.around shared.table.terms.lends (copy_of frame) old new
+  pub lives : LiesAlive s (Some (copy_of frame))
+  pub spare : FindsSpare s shared.table.terms.lends (copy_of frame) old new
 
 -- it is used as it is
 pub record CopiesPage (shared : Shared) (disk : ℕ) (s : GuestState) (v : ℕ) (old new : View) (uses uses_after : UsesState) : Type 0 where

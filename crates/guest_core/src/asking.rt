@@ -172,7 +172,7 @@ impl Parts {
         if let Some(open) = self.course.pmap.open_move(page) {
             return Ok(Asked::Busy(open.waiting));
         }
-        if let Some(cause) = cause_of_wish(&self.course, wish) {
+        if let Some(cause) = cause_of_wish(&self.course, token.number(), wish) {
             return Ok(self.skip(token, by, wish, cause));
         }
         self.begin(alloc, token, by, wish, resources)

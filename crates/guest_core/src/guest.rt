@@ -15,6 +15,7 @@ ghost use Rattle.guest_core.specs.Starting.{booted_with, MayStart};
 ghost use Rattle.guest_core.specs.Holding.{HasFrames, HoldsFor};
 ghost use Rattle.guest_core.specs.GuestView.{IsAtStart, IsSameGuest, AreOf, shared_by};
 ghost use Rattle.guest_core.specs.Noting.{IsNoted, shows_loaded};
+ghost use Rattle.guest_core.specs.FailCalls.{FailsCell, told_of_failure};
 ghost use Rattle.guest_core.specs.GuestCalls.{Leaves, LoadsVcpu, told_of_load, MayNote, MayCall, processor_of, loaded_on, Turns, told_of_turn};
 ghost use Rattle.guest_core.specs.Making.{Makes, MakesAlone, Stays};
 ghost use Rattle.guest_course.specs.Errands.{MustWait};
@@ -29,7 +30,7 @@ ghost use Rattle.wire_queue.specs.ListSteps.{HasTaken};
 ghost use Rattle.wire_queue.specs.PassLists.{IsUnused};
 
 use crate::parts::Parts;
-use crate::{Asked, GuestRecord, Loaded, Packeted, Ready, Resources, Turn};
+use crate::{Asked, Fate, GuestRecord, Loaded, Packeted, Ready, Resources, Turn};
 use base_words::{CellId, End, FrameList, InputList, MoveKind, NodeId, Ppn, ProcId, VcpuId};
 use cow_disk::Disk;
 use elf_image::Image;
@@ -145,8 +146,8 @@ impl Guest {
         self.parts.tells_loaded();
     }
 
-    /// Loads a virtual processor on the token's processor, on which nothing is loaded. `Ended` exactly where the guest has ended;
-    /// else `On` exactly where it is loaded already, on that processor.
+    /// Loads a virtual processor on the token's processor, on which nothing is loaded. `Ended` exactly where the guest has ended; else
+    /// `Dead` exactly where the processor's cell has failed, which it names; else `On` exactly where it is loaded already, on that processor.
     pub fn load_vcpu(&mut self, token: &mut ProcToken, vcpu: VcpuId) -> Loaded
         requires may { MayCall self.old token.old }
         requires room { 2 ≤ self.old.room }
@@ -260,7 +261,7 @@ impl Guest {
     }
 
     /// Takes the next packet in hand where the guest hasn't ended, a page is armed, and none is in hand, and copies the one in hand into
-    /// that page, or begins, finishes or waits for the move that is in its way. Memory is wanted for the copy that is kept of it; it stays in hand then. It may wait for a wire.
+    /// that page, or begins, finishes or waits for the move that is in its way. A packet whose cell has failed is thrown away. Memory is wanted for the copy that is kept of it; it stays in hand then. It may wait for a wire.
     #[inline]
     pub fn packet_in<R: Wait>(
         &mut self,
@@ -287,6 +288,20 @@ impl Guest {
         ensures stays { KeepsEnds self.old self.new × KeepsEnds from.old from.new }
     {
         self.parts.drained(rt, &mut from.parts, resources)
+    }
+
+    /// A cell fails. `WasDead` exactly where it had failed for the guest already, which is as it was; else `WasEnded` exactly where the guest
+    /// has ended; else `Ends` exactly where the guest uses the cell: it ends by it, and gives all its frames back; else `Stays`: it goes on.
+    /// It takes no memory.
+    pub fn cell_fails(&mut self, token: &mut ProcToken, cell: CellId, resources: &Resources) -> Fate
+        requires may { MayCall self.old token.old }
+        requires room { 2 ≤ self.old.room }
+        requires shared { AreOf (shared_by resources.now) self.old }
+        requires cell { cell.0 < most_cells }
+        ensures fails { FailsCell self.old cell self.new result }
+        ensures leaves { Leaves self.old token.old (told_of_failure cell self.old.state.end result) self.new token.new }
+    {
+        self.parts.cell_fails(token, cell, resources)
     }
 
     /// Ends a guest that hasn't ended, since the plan is done, once each move is finished for which nobody waits, in order of the pages. It

@@ -6,6 +6,7 @@ mod asking;
 mod booting;
 mod causes;
 mod ending;
+mod failing;
 mod frames;
 mod guest;
 mod keeping;
@@ -23,10 +24,9 @@ mod turning;
 mod using;
 mod wiring;
 
-pub use answers::{Asked, Loaded, Packeted, Ready, Turn};
+pub use answers::{Asked, Fate, Loaded, Packeted, Ready, Turn};
 pub use guest::Guest;
 pub use records::{
-    Cut, FailureList, FailureRecord, GuestList, GuestRecord, RecordList, RunRecord, SliceList,
-    SliceRecord,
+    Cut, FailureList, FailureRecord, GuestRecord, RecordList, RunRecord, SliceList, SliceRecord,
 };
 pub use resources::Resources;

@@ -11,14 +11,14 @@ ghost use Rattle.guest_core.specs.Making.{MakesAlone};
 use crate::Loaded;
 use crate::laws::laws;
 use crate::parts::Parts;
-use crate::using::{count_load, count_unload};
+use crate::using::{cell_of, count_load, count_unload};
 use base_words::{Event, ProcId, VcpuId};
 use isolation_law::exchanges;
 use shootdown::{Note, ProcToken, note};
 
 impl Parts {
-    /// Loads a virtual processor on the token's processor, on which nothing is loaded. `Ended` exactly where the guest has ended;
-    /// else `On` exactly where it is loaded already, on that processor.
+    /// Loads a virtual processor on the token's processor, on which nothing is loaded. `Ended` exactly where the guest has ended; else
+    /// `Dead` exactly where the processor's cell has failed, which it names; else `On` exactly where it is loaded already, on that processor.
     pub(crate) fn load_vcpu(&mut self, token: &mut ProcToken, vcpu: VcpuId) -> Loaded
         requires kept { IsKept self.old }
         requires may { MayCall (guest_of self.old) token.old }
@@ -35,6 +35,11 @@ impl Parts {
         if let Some(end) = self.course.ended {
             note(token, &mut self.seat, Note::Ended(end));
             return Loaded::Ended(end);
+        }
+        let cell = cell_of(&self.course, processor);
+        if self.course.is_dead(cell) {
+            note(token, &mut self.seat, Note::Dead(cell));
+            return Loaded::Dead(cell);
         }
         if let Some(other) = self.course.processor_with(vcpu) {
             return Loaded::On(other);

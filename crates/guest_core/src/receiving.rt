@@ -6,10 +6,11 @@ ghost use Rattle.isolation_law.specs.GuestState.{page as page_of};
 ghost use Rattle.guest_course.specs.CourseRules.{IsWritable};
 ghost use Rattle.guest_course.specs.Acting.{IsOwnDelivery};
 ghost use Rattle.guest_course.specs.Hurdles.{NeedsMove};
+ghost use Rattle.guest_course.specs.ReceivingCalls.{HandIsLost, HandLives};
 ghost use Rattle.guest_core.specs.GuestView.{guest_of, IsSameGuest, AreOf, shared_by};
 ghost use Rattle.guest_core.specs.Kept.{IsKept};
 ghost use Rattle.guest_core.specs.MoveCalls.{StillActs};
-ghost use Rattle.guest_core.specs.PacketCalls.{AfterHand, BeginsByHand, IsArmed, Fetches, KeepsEnds, ReceivesNext, SameSends, SharesPacket, TakesPacket};
+ghost use Rattle.guest_core.specs.PacketCalls.{AfterHand, BeginsByHand, DiscardsNext, IsArmed, Fetches, KeepsEnds, ReceivesNext, SameSends, SharesPacket, TakesPacket};
 
 use crate::frames::give_back;
 use crate::laws::laws;
@@ -62,6 +63,7 @@ impl Parts {
         requires room { 2 ≤ (guest_of self.old).room }
         requires armed { IsArmed (guest_of self.old) }
         requires in_hand { (guest_of self.old).state.hand ≢ None }
+        requires lives { HandLives (guest_of self.old).state }
         requires writable { (q : ℕ) → (guest_of self.old).state.devices.armed ≡ Some q → IsWritable (page_of (guest_of self.old).state q) }
         ensures kept { IsKept self.new }
         ensures received { OnOk result (ReceivesNext (guest_of self.old) (guest_of self.new)) }
@@ -77,6 +79,25 @@ impl Parts {
         Ok(())
     }
 
+    /// Throws the packet in hand away, whose cell has failed.
+    fn discard(&mut self, alloc: Global) -> Result<(), AllocError>
+        requires kept { IsKept self.old }
+        requires room { 2 ≤ (guest_of self.old).room }
+        requires armed { IsArmed (guest_of self.old) }
+        requires lost { HandIsLost (guest_of self.old).state }
+        ensures kept { IsKept self.new }
+        ensures discarded { OnOk result ((lost : HandIsLost (guest_of self.old).state) → DiscardsNext (guest_of self.old) lost.packet.cell (guest_of self.new)) }
+        ensures unchanged { OnErr result (self.new ≡ self.old) }
+        ensures leaves { AfterHand (guest_of self.old) (guest_of self.new) }
+    {
+        exchanges();
+        laws();
+        let place = self.course.discarded.len() as u64;
+        self.course.discard(alloc)?;
+        self.journal.push(Event::Discard(place));
+        Ok(())
+    }
+
     /// Ends the move by which the page that is armed is taken shared for the packet in hand: the frame that the packet hands on backs it.
     fn end_delivery(&mut self, alloc: Global, resources: &Resources) -> Result<(), AllocError>
         requires kept { IsKept self.old }
@@ -84,6 +105,7 @@ impl Parts {
         requires room { 2 ≤ (guest_of self.old).room }
         requires armed { IsArmed (guest_of self.old) }
         requires in_hand { (guest_of self.old).state.hand ≢ None }
+        requires lives { HandLives (guest_of self.old).state }
         requires own { (q : ℕ) → (guest_of self.old).state.devices.armed ≡ Some q → IsOwnDelivery (guest_of self.old).state q }
         ensures kept { IsKept self.new }
         ensures received { OnOk result (ReceivesNext (guest_of self.old) (guest_of self.new)) }
@@ -120,6 +142,7 @@ impl Parts {
         requires not_ended { (guest_of self.old).state.end ≡ None }
         requires armed { (guest_of self.old).state.devices.armed ≡ Some page.0 }
         requires in_hand { (guest_of self.old).state.hand ≢ None }
+        requires lives { HandLives (guest_of self.old).state }
         requires rests { (page_of (guest_of self.old).state page.0).move ≡ None }
         ensures kept { IsKept self.new }
         ensures shares { IfOk result (SharesPacket (guest_of self.old) page (guest_of self.new)) }
@@ -158,6 +181,7 @@ impl Parts {
         requires not_ended { (guest_of self.old).state.end ≡ None }
         requires armed { (guest_of self.old).state.devices.armed ≡ Some page.0 }
         requires in_hand { (guest_of self.old).state.hand ≢ None }
+        requires lives { HandLives (guest_of self.old).state }
         requires needs { NeedsMove (guest_of self.old).state page.0 kind }
         ensures kept { IsKept self.new }
         ensures begins { BeginsByHand (guest_of self.old) page kind (guest_of self.new) }
@@ -185,6 +209,7 @@ impl Parts {
         requires armed { IsArmed (guest_of self.old) }
         requires page { (guest_of self.old).state.devices.armed ≡ Some page.0 }
         requires in_hand { (guest_of self.old).state.hand ≢ None }
+        requires lives { HandLives (guest_of self.old).state }
         requires moves { (page_of (guest_of self.old).state page.0).move ≢ None }
         ensures kept { IsKept self.new }
         ensures takes { TakesPacket (guest_of self.old) (guest_of self.new) result }
@@ -208,6 +233,7 @@ impl Parts {
         requires room { 2 ≤ (guest_of self.old).room }
         requires armed { IsArmed (guest_of self.old) }
         requires in_hand { (guest_of self.old).state.hand ≢ None }
+        requires lives { HandLives (guest_of self.old).state }
         ensures kept { IsKept self.new }
         ensures takes { TakesPacket (guest_of self.old) (guest_of self.new) result }
         ensures leaves { AfterHand (guest_of self.old) (guest_of self.new) }
@@ -252,7 +278,7 @@ impl Parts {
     }
 
     /// Takes the next packet in hand where none is, and copies the one in hand into the page that is armed, or begins or finishes the move
-    /// that is in its way.
+    /// that is in its way; one whose cell has failed is thrown away.
     #[cold]
     #[inline(never)]
     fn take_next<R: Wait>(
@@ -275,6 +301,10 @@ impl Parts {
         self.fetch(rt, resources);
         if self.course.hand.is_none() {
             return Ok(Packeted::NoneInHand);
+        }
+        if let Some(cell) = self.course.lost_packet() {
+            self.discard(alloc)?;
+            return Ok(Packeted::Discarded(cell));
         }
         self.take_in(alloc, resources)
     }

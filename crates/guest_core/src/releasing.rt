@@ -3,7 +3,7 @@ ghost use Rattle.std.specs.Prelude.{◌≡◌, ◌<◌, ◌≤◌, ◌+◌, [], 
 ghost use Rattle.base_words.specs.declared.events.Event.TheVariants.{End as Ending};
 ghost use Rattle.frame_words.specs.Holders.{IsMade};
 ghost use Rattle.pmap_table.specs.GivingUp.{held};
-ghost use Rattle.isolation_law.specs.EndRows.{MayEnd};
+ghost use Rattle.isolation_law.specs.EndRows.{MayEnd, ended};
 ghost use Rattle.guest_course.specs.CourseView.{state_of};
 ghost use Rattle.guest_course.specs.CourseRules.{IsSound};
 ghost use Rattle.guest_course.specs.EndCalls.{EndsSo, letting_go};
@@ -72,7 +72,6 @@ pub(crate) fn close(
     end: End,
 )
     requires sound { IsSound course.old }
-    requires may { MayEnd (state_of course.old) end }
     requires made { IsMade table.now holder.old }
     requires fits { FitsAround table.now (state_of course.old).around }
     requires at_home { (state_of course.old).around.home < length (state_of course.old).around.nodes }
@@ -80,7 +79,8 @@ pub(crate) fn close(
     requires used { AreUses (state_of course.old) uses.old }
     requires room { length (letting_go 0 course.old.pmap.pages) < journal.old.room }
     ensures sound { IsSound course.new }
-    ensures ends { EndsSo (state_of course.old) end (state_of course.new) }
+    ensures state { state_of course.new ≡ ended end (state_of course.old) }
+    ensures ends { MayEnd (state_of course.old) end → EndsSo (state_of course.old) end (state_of course.new) }
     ensures entries { journal.new.entries ≡ journal.old.entries ++ (letting_go 0 course.old.pmap.pages ++ Ending end ∷ []) }
     ensures room { journal.old.room ≤ journal.new.room + length (letting_go 0 course.old.pmap.pages) + 1 }
     ensures frames { HasFrames (state_of course.new) holder.new.view }

@@ -6,6 +6,8 @@ ghost use Rattle.frame_words.specs.FrameWords.{frame_word};
 ghost use Rattle.frame_words.specs.Holders.{IsMade};
 ghost use Rattle.frame_words.specs.Refusals.{AddsShare, AddsShareRefusal};
 ghost use Rattle.pmap_table.specs.Frames.{shared_copy_of};
+ghost use Rattle.node_frames.specs.Layout.{layout_of};
+ghost use Rattle.node_frames.specs.Places.{AreNodes};
 ghost use Rattle.isolation_law.specs.Surroundings.{cell_of_frame, home_cell as home_of};
 ghost use Rattle.guest_course.specs.CourseView.{state_of};
 ghost use Rattle.guest_course.specs.CourseRules.{IsSound};
@@ -16,7 +18,7 @@ ghost use Rattle.guest_core.specs.Blocks.{blocks_of, LieOnCell};
 ghost use Rattle.guest_core.specs.Frames.{AreSpread, HoldsToo, TakesNone};
 ghost use Rattle.guest_core.specs.GuestView.{shared_by};
 ghost use Rattle.guest_core.specs.Holding.{FitsAround, IsHolding, frames_around};
-ghost use Rattle.guest_core.specs.Sharing.{HasCopy};
+ghost use Rattle.guest_core.specs.Sharing.{lives_on, spare_nodes as spare_nodes_of, HasCopy};
 ghost use Rattle.guest_core.specs.TurnParts.{SharesPage};
 ghost use Rattle.guest_core.specs.Using.{AreUses};
 
@@ -24,7 +26,7 @@ use crate::Resources;
 use crate::frames::{frames_are_few, take};
 use crate::releasing::home_cell;
 use crate::using::count_frame;
-use base_words::{Frame, Ppn, SharedFrame, VcpuId};
+use base_words::{Frame, NodeList, Ppn, SharedFrame, VcpuId};
 use cell_depend::Uses;
 use cow_disk::SharedIndex;
 use frame_words::{FrameTable, Holder, Share, share};
@@ -139,6 +141,23 @@ fn share_block(
     }
 }
 
+/// The nodes on which a spare is sought: those of a boot in their order, without those of cells that have failed.
+fn spare_nodes(alloc: Global, course: &Course) -> Result<NodeList, AllocError>
+    requires sound { IsSound course.now }
+    requires at_home { course.now.around.home.0 < course.now.around.site.shape.nodes }
+    ensures order { IfOk result (λ order. order ≡ spare_nodes_of (state_of course.now) (layout_of course.now.around.site.shape)) }
+    ensures nodes { IfOk result (λ order. AreNodes (layout_of course.now.around.site.shape) order) }
+{
+    let all = boot_order(alloc, &course.around.site.shape, course.around.home)?;
+    let mut order = NodeList::new(alloc);
+    for node in all.as_slice() {
+        if !course.is_dead(course.cell_of_node(*node)) {
+            order.push(*node)?;
+        }
+    }
+    Ok(order)
+}
+
 /// Finds a frame that will be the spare of a page, so that the page can be given.
 fn share_page(
     alloc: Global,
@@ -165,7 +184,7 @@ fn share_page(
     ensures same { holder.new.table ≡ holder.old.table }
 {
     acts_are_at_hand();
-    let order = boot_order(alloc, &course.around.site.shape, course.around.home)?;
+    let order = spare_nodes(alloc, course)?;
     match take(alloc, course, holder, uses, resources.table, &order) {
         Ok(spare) => Ok(Sharing::Give(page, spare)),
         Err(FindFault::NoFrame(_)) => Ok(Sharing::Nothing),

@@ -80,7 +80,7 @@ pub(crate) fn count_frame_no_more(uses: &mut Uses, around: &Around, frame: Frame
 }
 
 /// The cell of a processor.
-fn cell_of(course: &Course, processor: ProcId) -> CellId
+pub(crate) fn cell_of(course: &Course, processor: ProcId) -> CellId
     requires is_processor { processor.0 < length course.now.places.items }
     requires places { AllStand (surroundings course.now.around) 0 course.now.places.items }
     ensures { result.0 ≡ cell_of_processor (surroundings course.now.around) processor.0 }

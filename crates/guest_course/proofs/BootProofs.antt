@@ -1,8 +1,8 @@
 -- A guest that is booted is the law's start.
-use Rattle.std.proofs.Common.{◌≡◌, ℕ, zero, suc, ◌+◌, ◌*◌, ◌^◌, slice_index, ◌<◌, ◌≤◌, false, List, [], ◌∷◌, ◌++◌, Option, Some, None, length, map, flat_map, get_or, option_map, replicate, take, drop, refl, sym, ap, ◌∙◌, subst, arith}
+use Rattle.std.proofs.Common.{◌≡◌, ℕ, zero, suc, ◌+◌, ◌*◌, ◌^◌, slice_index, ◌<◌, ◌≤◌, false, List, [], ◌∷◌, ◌++◌, Option, Some, None, length, map, flat_map, get_or, option_map, replicate, take, drop, refl, sym, ap, ◌∙◌, subst, arith, Bool}
 use Rattle.std.proofs.lemmas.List.{length-map, length-append, length-replicate}
 use Rattle.std.proofs.Math.Nat.{suc-mul, mul-le-mul_right}
-use Rattle.base_words.specs.Limits.{most_processors}
+use Rattle.base_words.specs.Limits.{most_processors, most_cells}
 use Rattle.private_machine.specs.DevicePage.{nothing_set}
 use Rattle.private_machine.specs.Disk.{Block}
 use Rattle.private_machine.specs.Showing.{shown_by, shown_from}
@@ -20,14 +20,15 @@ use Rattle.pmap_table.specs.BackedPages.{own_page}
 use Rattle.isolation_law.specs.Surroundings.{Surroundings, node_of_processor}
 use Rattle.isolation_law.specs.GuestState.{idle}
 use Rattle.isolation_law.specs.Parts.{Processor}
-use Rattle.isolation_law.specs.Start.{pages_at_start, no_cells, IsBoot, start}
-use Rattle.isolation_law.specs.Coherence.{Coherent}
+use Rattle.isolation_law.specs.Start.{pages_at_start, IsBoot, start}
 use Rattle.guest_course.specs.SkipView.{skip_of}
 use Rattle.guest_course.specs.CourseView.{surroundings, processor_of, purpose_of, due_of, hand_of, got_of, state_of}
 use Rattle.guest_course.specs.CourseRules.{AllStand, IsSound}
 use Rattle.guest_course.specs.declared.site.Around.{Around}
 use Rattle.guest_course.specs.declared.course.Course.{Course}
 use Rattle.guest_course.specs.BootCalls.{found_of, given_blocks, boot_of, free_place, AreWhole, AllBelow, MayBoot}
+use Rattle.guest_course.specs.Failures.{dead_cells}
+use Rattle.guest_course.proofs.RebackLemmas.{IsWell}
 
 taken : (bytes rest : List ℕ) (n : ℕ) → length bytes ≡ n → take n (bytes ++ rest) ≡ bytes
 taken [] rest zero e = refl
@@ -105,6 +106,7 @@ pub record Booted (c : Course) (around : Around) (entry vcpus : ℕ) (frames : L
   pub discarded : c.discarded.items ≡ []
   pub skips : c.skips.items ≡ []
   pub hand : c.hand ≡ None
+  pub dead : c.dead ≡ None
   pub ended : c.ended ≡ None
 
 map-replicate : {A B : Type 0} (f : A → B) (n : ℕ) (a : A) → map f (replicate n a) ≡ replicate n (f a)
@@ -142,7 +144,7 @@ booted-state c around entry vcpus frames disk input may b =
       processors = (ap (map processor_of) b.places ∙ idle-places around.site.shape.frames around.site.processors ∙ ap (λ n. replicate n idle) processors) i;
       due = (ap (map due_of) b.due ∙ map-replicate due_of (length around.site.processors) None ∙ ap (λ n. replicate n None) processors) i;
       seconds = b.seconds i;
-      dead = no_cells;
+      dead = dead_cells (b.dead i);
     }
 
 -- the boot is the law's
@@ -169,8 +171,8 @@ places-stand : (around : Around) → AllBelow around.site.shape.nodes around.sit
 places-stand around below = free-stand (surroundings around) around.site.shape.frames 0 around.site.processors refl (subst (λ (n : ℕ). AllBelow n around.site.processors) (sym (node-count around)) below) (λ i lt. index-told around.site.processors i lt ∙ ap (node_of_processor (surroundings around)) (let e : i ≡ 0 + i = omega arith in e))
 
 pub booted-sound : (c : Course) (around : Around) (entry vcpus : ℕ) (frames : List Frame) (disk : List Block) (input : List InputEntry) → MayBoot around vcpus frames disk → Booted c around entry vcpus frames disk input
-    → Coherent (state_of c) → IsSound c
-booted-sound c around entry vcpus frames disk input may b co =
+    → IsWell (state_of c) → IsSound c
+booted-sound c around entry vcpus frames disk input may b w =
     let count : length c.vcpus.items ≡ vcpus = ap length b.vcpus_are ∙ length-replicate vcpus (started entry) in
     let place_count : length c.places.items ≡ length around.site.processors = ap length b.places ∙ length-map around.site.processors (free_place around.site.shape.frames) in
     let page_count : length c.pmap.pages ≡ length frames = ap length b.pages ∙ length-map frames own_page in
@@ -184,13 +186,15 @@ booted-sound c around entry vcpus frames disk input may b co =
         due = ap length b.due ∙ length-replicate (length around.site.processors) None ∙ sym place_count;
         few_pages = subst (λ (n : ℕ). n ≤ 2048) (sym page_count) may.few_pages;
         cells = ap length b.sent_from ∙ ap (λ (d : DeviceState). length d.page.sent) (sym b.devs);
+        dead = ap (λ (o : Option (List Bool)). length (dead_cells o)) b.dead ∙ length-replicate most_cells false;
       };
       agree = rw (b.devs, b.vcpus_are) (shown-start entry vcpus);
       loaded = λ p v is. absurd (nothing-loaded (map processor_of c.places.items) (length around.site.processors) p v (ap (map processor_of) b.places ∙ idle-places around.site.shape.frames around.site.processors) is);
       places = rw (b.around_is, b.places) (places-stand around may.on_nodes);
       in_hand = rw b.hand tt;
       going = λ on. record {
-        coherent = co;
+        coherent = w.coherent;
+        live = w.live;
         pages = ap (λ (d : DeviceState). d.pages) b.devs ∙ sym page_count;
         counted = subst (λ a. AreCounters (length c.pmap.pages) (length a.site.shape.cells) c.counters) (sym b.around_is)
             (subst (λ (n : ℕ). AreCounters (length c.pmap.pages) n c.counters) (sym around.site.shape.has_cells) (subst (λ (n : ℕ). AreCounters n around.site.shape.nodes c.counters) (sym page_count) b.counted));

@@ -1,5 +1,5 @@
 -- A packet for which the armed page is taken shared: its end of that move is its row.
-use Rattle.std.proofs.Common.{◌≡◌, ℕ, true, ◌++◌, ◌∷◌, [], Option, Some, None, length, map, refl, sym, ap, ◌∙◌}
+use Rattle.std.proofs.Common.{◌≡◌, ℕ, true, ◌++◌, ◌∷◌, [], Option, Some, None, length, map, sym, ap, ◌∙◌}
 use Rattle.std.proofs.lemmas.List.{length-map, map-append}
 use Rattle.private_machine.specs.Packet.{came_into, own_packet}
 use Rattle.private_machine.specs.Vcpu.{with_line_on}
@@ -9,7 +9,7 @@ use Rattle.private_machine.specs.Signals.{changed}
 use Rattle.guest_devs.specs.DeviceState.{DeviceState}
 use Rattle.guest_devs.specs.Shown.{Agree}
 use Rattle.isolation_law.specs.Content.{content, with_own}
-use Rattle.isolation_law.specs.GuestState.{GuestState, processor}
+use Rattle.isolation_law.specs.GuestState.{GuestState}
 use Rattle.isolation_law.specs.PacketRows.{EndsDelivery}
 use Rattle.isolation_law.specs.Phases.{GoesOn, all_halted}
 use Rattle.isolation_law.specs.StepRows.{taken_shared}
@@ -18,11 +18,10 @@ use Rattle.guest_course.specs.declared.got.GotPacket.{GotPacket}
 use Rattle.guest_course.specs.Acting.{IsOwnDelivery}
 use Rattle.guest_course.specs.CourseView.{state_of, got_of}
 use Rattle.guest_course.specs.CourseRules.{IsSound}
-use Rattle.guest_course.proofs.DirectRow.{none-dead}
 use Rattle.guest_course.proofs.EmulateProofs.{Remade}
 use Rattle.guest_course.proofs.HaltLemmas.{halted-unlinked, halted-lined}
 use Rattle.guest_course.proofs.ReceivingProofs.{changed-length}
-use Rattle.guest_course.proofs.StepProofs.{goes-on}
+use Rattle.guest_course.specs.ReceivingCalls.{HandLives}
 
 -- a packet is noted
 pub record NotesPacket (c m : Course) (q : ℕ) (x : GotPacket) : Type 0 where
@@ -50,14 +49,14 @@ state-kept n d x k =
     let received = ap (map got_of) k.received ∙ map-append got_of n.received.items (x ∷ []) in
     ap state_of k.same ∙ (λ i. record (state_of n) { received = received i; hand = None })
 
-pub ends-delivery-row : (c m n d : Course) (q : ℕ) (x : GotPacket) → GoesOn (state_of c) → (state_of c).devices.armed ≡ Some q → (state_of c).hand ≡ Some (got_of x) → (own : IsOwnDelivery (state_of c) q)
+pub ends-delivery-row : (c m n d : Course) (q : ℕ) (x : GotPacket) → GoesOn (state_of c) → (state_of c).devices.armed ≡ Some q → (state_of c).hand ≡ Some (got_of x) → HandLives (state_of c) → (own : IsOwnDelivery (state_of c) q)
     → NotesPacket c m q x → state_of n ≡ taken_shared q own.taken.target (state_of m) → KeepsPacket n d x → EndsDelivery (state_of c) (length c.received.items) (state_of d)
-ends-delivery-row c m n d q x on armed hand own notes is keeps =
+ends-delivery-row c m n d q x on armed hand live own notes is keeps =
     let s = state_of c in
     record {
       q = q;
       packet = got_of x;
-      delivered = record { goes_on = on; armed = armed; in_hand = hand; lives = none-dead x.cell.0; next = sym (length-map c.received.items got_of) };
+      delivered = record { goes_on = on; armed = armed; in_hand = hand; lives = live (got_of x) hand; next = sym (length-map c.received.items got_of) };
       target = own.taken.target;
       kept = own.kept;
       waiting = own.taken.waiting;
@@ -78,6 +77,7 @@ noted-remade c m q x sound on n =
       counted = λ pages nodes is. rw (ap (λ (y : Course). y.counters) n.same) is;
       ended = ap (λ (y : Course). y.ended) n.same;
       in_hand = rw (ap (λ (y : Course). y.hand) n.same) sound.in_hand;
+      dead = ap (λ (y : Course). y.dead) n.same;
       cells = ap (λ (y : Course). length y.sent_from.items) n.same ∙ sound.sized.cells ∙ ap (λ (y : DeviceState). length y.page.sent) (sym n.devs);
       vcpus = vcpus;
       fits = record {
@@ -100,6 +100,7 @@ kept-remade c n d x m k =
       counted = λ pages nodes is. rw (ap (λ (y : Course). y.counters) k.same) (m.counted pages nodes is);
       ended = ap (λ (y : Course). y.ended) k.same ∙ m.ended;
       in_hand = rw (ap (λ (y : Course). y.hand) k.same) tt;
+      dead = ap (λ (y : Course). y.dead) k.same ∙ m.dead;
       cells = ap (λ (y : Course). length y.sent_from.items) k.same ∙ m.cells ∙ ap (λ (y : Course). length y.devs.state.page.sent) (sym k.same);
       vcpus = ap (λ (y : Course). length y.vcpus.items) k.same ∙ m.vcpus;
       fits = rw (ap (λ (y : Course). y.vcpus) k.same, ap (λ (y : Course). y.devs) k.same, ap (λ (y : Course). y.pmap) k.same) m.fits;

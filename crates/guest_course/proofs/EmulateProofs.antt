@@ -1,5 +1,5 @@
 -- A step that the monitor makes is its row, and keeps what holds of a guest.
-use Rattle.std.proofs.Common.{◌≡◌, ℕ, ◌<◌, ◌≤◌, if◌then◌else◌, true, false, List, [], ◌∷◌, Option, Some, None, Err, length, map, get_or, set, refl, sym, ap, ◌∙◌, subst, length-set, true≢false}
+use Rattle.std.proofs.Common.{◌≡◌, ℕ, ◌<◌, ◌≤◌, if◌then◌else◌, true, false, List, [], ◌∷◌, Option, Some, None, Err, length, map, get_or, set, refl, sym, ap, ◌∙◌, subst, length-set, true≢false, Bool}
 use Rattle.std.proofs.lemmas.List.{map-set}
 use Rattle.std.specs.Global.{Vec}
 use Rattle.base_words.specs.Limits.{most_processors}
@@ -25,10 +25,8 @@ use Rattle.trap_emulate.specs.declared.emulated.Emulated.TheVariants.{Done}
 use Rattle.isolation_law.specs.Parts.{Processor}
 use Rattle.isolation_law.specs.GuestState.{GuestState, idle, processor, vcpu_of}
 use Rattle.isolation_law.specs.Content.{content, with_own}
-use Rattle.isolation_law.specs.Coherence.{Coherent}
 use Rattle.isolation_law.specs.DirectStep.{with_inputs, sight}
 use Rattle.isolation_law.specs.Needs.{needed}
-use Rattle.isolation_law.specs.Start.{no_cells}
 use Rattle.isolation_law.specs.StepAct.{at_hand}
 use Rattle.isolation_law.specs.StepRows.{IsEmulated, Emulates, pair_dropped, old_pair, new_pair, act_done}
 use Rattle.isolation_law.specs.Traps.{step_on, is_granted}
@@ -37,13 +35,12 @@ use Rattle.guest_course.specs.declared.course.Course.{Course}
 use Rattle.guest_course.specs.CourseView.{surroundings, processor_of, state_of}
 use Rattle.guest_course.specs.CourseRules.{FitsInHand, IsSound, StandsAt, AllStand}
 use Rattle.guest_course.specs.Rebacking.{Rebacked}
-use Rattle.guest_course.specs.StepCalls.{MayStep, IsDenied}
+use Rattle.guest_course.specs.StepCalls.{MayStep, IsDenied, ReachesNoneLost}
 use Rattle.guest_course.specs.EmulateCalls.{written_dropped}
 use Rattle.guest_course.proofs.NotingLemmas.{stands}
-use Rattle.guest_course.proofs.DirectRow.{no-frame-lost}
 use Rattle.guest_course.proofs.JoinLemmas.{by-first}
-use Rattle.guest_course.proofs.RebackLemmas.{stands-set, processor-at, loaded-elsewhere}
-use Rattle.guest_course.proofs.TrapLemmas.{never-dead}
+use Rattle.guest_course.proofs.RebackLemmas.{stands-set, processor-at, loaded-elsewhere, IsWell}
+use Rattle.guest_course.specs.Failures.{dead_cells}
 
 -- what is granted is granted once the input has joined
 granted-joined : (m : PrivateMachine) (v : ℕ) (w : Wanted) → grants (joined m v) v (Some w) ≡ grants m v (Some w)
@@ -54,7 +51,7 @@ granted-joined m v w = by-first (λ n b. grants (if b then input_joined m else m
     first (c ∷ l) = refl
 
 -- why the hardware trapped, as the code that emulates asks for it
-denied-trap : (s : GuestState) (p v : ℕ) (trap : Trap) → s.dead ≡ no_cells → step_on s p v ≡ Err trap → is_granted s v (trapped_access trap) ≡ false → DeniedTrap (joined (content s) v) v None trap
+denied-trap : (s : GuestState) (p v : ℕ) (trap : Trap) → ReachesNoneLost s p v → step_on s p v ≡ Err trap → is_granted s v (trapped_access trap) ≡ false → DeniedTrap (joined (content s) v) v None trap
 denied-trap s p v Line live is denied = tt
 denied-trap s p v (FetchMiss w) live is denied = granted-joined (content s) v w ∙ denied
 denied-trap s p v (DataMiss word w) live is denied = granted-joined (content s) v w ∙ denied
@@ -62,10 +59,9 @@ denied-trap s p v (ReadOnly word w) live is denied = λ granted none. true≢fal
 denied-trap s p v (Address word) live is denied = tt
 denied-trap s p v (Privileged word) live is denied = tt
 denied-trap s p v (Raised x) live is denied = tt
-denied-trap s p v (Dead there w) live is denied =
-    never-dead (sight (with_inputs s v) p v) (with_inputs s v).pages (vcpu_of (with_inputs s v) v).registers there w (no-frame-lost s live) is
+denied-trap s p v (Dead there w) live is denied = live there w is
 
-pub is-trap : (s : GuestState) (p v : ℕ) (cause : TrapCause) → s.dead ≡ no_cells → IsDenied s p v cause → IsTrap (joined (content s) v) v None cause
+pub is-trap : (s : GuestState) (p v : ℕ) (cause : TrapCause) → ReachesNoneLost s p v → IsDenied s p v cause → IsTrap (joined (content s) v) v None cause
 is-trap s p v cause live d = record {
   sight = sight (with_inputs s v) p v;
   backing = (with_inputs s v).pages;
@@ -84,6 +80,7 @@ pub record Remade (c d : Course) : Type 0 where
   pub counted : (pages nodes : ℕ) → AreCounters pages nodes c.counters → AreCounters pages nodes d.counters
   pub ended : d.ended ≡ c.ended
   pub in_hand : FitsInHand (surroundings c.around) d.hand
+  pub dead : d.dead ≡ c.dead
   pub cells : length d.sent_from.items ≡ length d.devs.state.page.sent
   pub vcpus : length d.vcpus.items ≡ length c.vcpus.items
   pub fits : Fits (length d.pmap.pages) d.vcpus.items d.devs.state
@@ -102,6 +99,7 @@ remade c d same long fits stand hand cells =
       counted = λ pages nodes is. rw (ap (λ (y : Course). y.counters) same) is;
       ended = ap (λ (y : Course). y.ended) same;
       in_hand = rw (ap (λ (y : Course). y.hand) same) hand;
+      dead = ap (λ (y : Course). y.dead) same;
       cells = ap (λ (y : Course). length y.sent_from.items) same ∙ cells;
       vcpus = long;
       fits = rw pmap fits;
@@ -119,6 +117,7 @@ remade-rebacked c d e m r = record {
   counted = λ pages nodes is. r.counted pages nodes (m.counted pages nodes is);
   ended = r.ended ∙ m.ended;
   in_hand = rw r.hand m.in_hand;
+  dead = r.dead ∙ m.dead;
   cells = rw (r.sent_from, r.devs) m.cells;
   vcpus = ap (λ (l : Vec Vcpu). length l.items) r.vcpus ∙ m.vcpus;
   fits = rw (r.vcpus, r.devs, r.long) m.fits;
@@ -130,8 +129,8 @@ remade-rebacked c d e m r = record {
 }
 
 pub sound-remade : (c d : Course) → IsSound c → c.ended ≡ None → Remade c d
-    → ((p v : ℕ) → (processor (state_of d) p).loaded ≡ Some v → v < length c.vcpus.items) → Coherent (state_of d) → IsSound d
-sound-remade c d sound on m loaded co =
+    → ((p v : ℕ) → (processor (state_of d) p).loaded ≡ Some v → v < length c.vcpus.items) → IsWell (state_of d) → IsSound d
+sound-remade c d sound on m loaded w =
     let sized = sound.sized in
     let going = sound.going on in
     record {
@@ -144,13 +143,15 @@ sound-remade c d sound on m loaded co =
         due = m.due ∙ sized.due ∙ sym m.places;
         few_pages = subst (λ (k : ℕ). k ≤ 2048) (sym m.long) sized.few_pages;
         cells = m.cells;
+        dead = ap (λ (o : Option (List Bool)). length (dead_cells o)) m.dead ∙ sized.dead;
       };
       agree = m.fits.agree;
       loaded = λ p v is. subst (λ (k : ℕ). v < k) (sym m.vcpus) (loaded p v is);
       places = rw m.around m.stands;
       in_hand = rw m.around m.in_hand;
       going = λ _. record {
-        coherent = co;
+        coherent = w.coherent;
+        live = w.live;
         pages = m.fits.of_pages;
         counted = rw (m.around, m.long) (m.counted _ _ going.counted);
       };
@@ -185,6 +186,7 @@ drop-rebacked c d p v pair lt all f =
       counted = λ pages nodes is. rw (ap (λ (y : Course). y.counters) f.same) is;
       ended = ap (λ (y : Course). y.ended) f.same;
       hand = ap (λ (y : Course). y.hand) f.same;
+      dead = ap (λ (y : Course). y.dead) f.same;
       sent_from = ap (λ (y : Course). y.sent_from) f.same;
       seconds = ap length f.seconds ∙ length-set c.seconds.items v (seconds_without_pair pair (get_or c.seconds.items v []));
       places = ap length f.places ∙ length-set c.places.items p (record f.place { tlb = f.tlb });

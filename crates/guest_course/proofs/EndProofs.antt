@@ -11,7 +11,7 @@ use Rattle.base_words.specs.Membership.{HasNone}
 use Rattle.private_machine.specs.Backing.{Copy, Change, Migrates, Replicates, Collapses, Breaks, TakesShared, GivesShared, Page, Move, page_at, no_page}
 use Rattle.private_machine.specs.PageMove.{finished}
 use Rattle.isolation_law.specs.Dues.{without_due, without_moving}
-use Rattle.isolation_law.specs.EndRows.{MayEnd, Ends, LetsGo, ended, is_taking, takes}
+use Rattle.isolation_law.specs.EndRows.{MayEnd, LetsGo, ended, is_taking, takes}
 use Rattle.isolation_law.specs.GuestState.{GuestState, page}
 use Rattle.isolation_law.specs.MoveRows.{with_finished}
 use Rattle.isolation_law.specs.Parts.{Wish}
@@ -189,12 +189,14 @@ ends-from (g ∷ rest) k s end drops before may =
                   (more t (drop-after s.pages k (finished (TakesShared taken.0) (page s k)) ∙ next.2) (before-next t k (before-gone s k taken.0 next.1 before) (ap is_taking (own-page s k taken.0 next.1))) (may-still s k taken.0 end next.1 may)),
             )
 
-pub ends-so : (c d : Course) (end : End) → MayEnd (state_of c) end → d ≡ record c { pmap = d.pmap; operations = d.operations; due = d.due; ended = Some end } → d.pmap.pages ≡ [] → d.pmap.spares ≡ [] → d.operations.items ≡ []
-    → map due_of d.due.items ≡ map (without_moving c.pmap.pages) (map due_of c.due.items) → EndsSo (state_of c) end (state_of d)
-ends-so c d end may same pages spares operations dues =
-    let s = state_of c in
-    let after : state_of d ≡ ended end s = ap state_of same ∙ (λ i. record s { end = Some end; pages = pages i; operations = map purpose_of (operations i); spares = spares i; due = dues i }) in
-    subst (EndsSo s end) (sym after) (ends-from s.pages 0 s end refl (λ r lt. absurd (omega (arith, lt))) may)
+-- what is left of a guest that has given up its pages
+pub ends-state : (c d : Course) (end : End) → d ≡ record c { pmap = d.pmap; operations = d.operations; due = d.due; ended = Some end } → d.pmap.pages ≡ [] → d.pmap.spares ≡ [] → d.operations.items ≡ []
+    → map due_of d.due.items ≡ map (without_moving c.pmap.pages) (map due_of c.due.items) → state_of d ≡ ended end (state_of c)
+ends-state c d end same pages spares operations dues =
+    ap state_of same ∙ (λ i. record (state_of c) { end = Some end; pages = pages i; operations = map purpose_of (operations i); spares = spares i; due = dues i })
+
+pub ends-so : (s t : GuestState) (end : End) → MayEnd s end → t ≡ ended end s → EndsSo s end t
+ends-so s t end may after = subst (EndsSo s end) (sym after) (ends-from s.pages 0 s end refl (λ r lt. absurd (omega (arith, lt))) may)
 
 -- all but its pages, what is due of them and its end is as it was
 pub ends-sound : (c d : Course) (end : End) → IsSound c → d ≡ record c { pmap = d.pmap; operations = d.operations; due = d.due; ended = Some end } → d.pmap.pages ≡ [] → length d.due.items ≡ length c.due.items → IsSound d
@@ -211,6 +213,7 @@ ends-sound c d end sound same pages dues =
         due = dues ∙ sized.due;
         few_pages = few;
         cells = sized.cells;
+        dead = sized.dead;
       };
       agree = sound.agree;
       loaded = sound.loaded;

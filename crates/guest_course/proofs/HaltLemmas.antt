@@ -1,5 +1,5 @@
 -- No virtual processor halts by a step of which an act was left.
-use Rattle.std.proofs.Common.{◌≡◌, ℕ, zero, suc, ◌==◌, ◌&&◌, Bool, true, false, List, [], ◌∷◌, map, refl, ap, ◌∙◌}
+use Rattle.std.proofs.Common.{◌≡◌, ℕ, zero, suc, ◌&&◌, Bool, true, List, [], ◌∷◌, map, refl, ap, ◌∙◌}
 use Rattle.private_machine.specs.declared.vcpu.Vcpu.{Vcpu}
 use Rattle.private_machine.specs.Vcpu.{with_line_on, ticking}
 use Rattle.private_machine.specs.DevicePage.{DevicePage}

@@ -16,12 +16,14 @@ pub mod LoadProofs
 pub mod GrantLemmas
 pub mod FillProofs
 pub mod TrapLemmas
+pub mod LiveLemmas
 pub mod RefillProofs
 pub mod DueLemmas
 pub mod EmulateProofs
 pub mod BootProofs
 pub mod ReadyLemmas
 pub mod EndProofs
+pub mod FailProofs
 pub mod ErrandLemmas
 pub mod HurdleLemmas
 pub mod TakenLemmas

@@ -1,5 +1,5 @@
 -- The begin of a move that a page needs before its bytes change is its row.
-use Rattle.std.proofs.Common.{◌≡◌, ◌≢◌, ℕ, ◌/◌, ◌<◌, ◌==◌, ◌&&◌, not, if◌then◌else◌, Bool, true, false, List, [], ◌∷◌, ◌++◌, Option, Some, None, option_map, Ok, Err, length, get_or, remove, slice_get, inl, inr, refl, sym, ap, ◌∙◌, subst}
+use Rattle.std.proofs.Common.{◌≡◌, ◌≢◌, ℕ, ◌/◌, ◌<◌, ◌==◌, ◌&&◌, not, if◌then◌else◌, Bool, true, false, List, [], ◌∷◌, ◌++◌, Option, Some, None, option_map, Ok, Err, length, remove, slice_get, inl, inr, refl, sym, ap, ◌∙◌, subst}
 use Rattle.std.proofs.lemmas.Bool.{cases_lt}
 use Rattle.std.proofs.lemmas.List.{get_or_past}
 use Rattle.base_words.specs.declared.ids.ProcId.{ProcId}
@@ -21,7 +21,6 @@ use Rattle.guest_devs.specs.declared.act.DevAct.{DevAct}
 use Rattle.guest_devs.specs.declared.act.DevAct.TheVariants as acts
 use Rattle.isolation_law.specs.Coherence.{Coherent}
 use Rattle.isolation_law.specs.Content.{content}
-use Rattle.isolation_law.specs.Start.{no_cells}
 use Rattle.isolation_law.specs.Traps.{step_on}
 use Rattle.private_machine.specs.PageMove.{kind_of, target_of}
 use Rattle.isolation_law.specs.GuestState.{GuestState, page, processor, hand_place}
@@ -40,19 +39,18 @@ use Rattle.guest_course.specs.Hurdles.{NeedsMove}
 use Rattle.guest_course.specs.MoveCalls.{home_wish}
 use Rattle.guest_course.specs.Rebacking.{Rebacked}
 use Rattle.guest_course.specs.RefillCalls.{ReachesPage, StaysNeeding}
-use Rattle.guest_course.specs.StepCalls.{MayStep}
+use Rattle.guest_course.specs.StepCalls.{MayStep, ReachesNoneLost}
 use Rattle.guest_course.specs.Tasks.{read_page}
-use Rattle.guest_course.proofs.DirectRow.{none-dead}
 use Rattle.guest_course.proofs.HurdleLemmas.{never-some}
 use Rattle.guest_course.proofs.ReadLemmas.{read-at-hand}
-use Rattle.guest_course.proofs.RefillProofs.{none-lost}
+use Rattle.guest_course.specs.ReceivingCalls.{HandLives}
 
 -- what is told of stores through halves that aren't writable
 abbrev pub ReadOnlyStores : Type 0
 ReadOnlyStores = (s : GuestState) (p v word : ℕ) (w : Wanted) (offset : ℕ) → Coherent s → (processor s p).loaded ≡ Some v → step_on s p v ≡ Err (ReadOnly word w) → led (content s) v w.unit w.purpose w.address ≡ Ok (Memory offset) → at_hand s v ≡ StoresTo (offset / 4096)
 
 -- a store that the guest grants on a page is what the step at hand does with it
-pub stores-at-hand : ReadOnlyStores → (s : GuestState) (p v q : ℕ) → Coherent s → s.dead ≡ no_cells → (processor s p).loaded ≡ Some v → (r : ReachesPage s p v q) → missed_access r.trap ≡ None → at_hand s v ≡ StoresTo q
+pub stores-at-hand : ReadOnlyStores → (s : GuestState) (p v q : ℕ) → Coherent s → ReachesNoneLost s p v → (processor s p).loaded ≡ Some v → (r : ReachesPage s p v q) → missed_access r.trap ≡ None → at_hand s v ≡ StoresTo q
 stores-at-hand law s p v q co live loaded r missed = by r.trap r.is_it r.traps missed
   where
     by : (trap : Trap) → trapped_access trap ≡ Some r.access → step_on s p v ≡ Err trap → missed_access trap ≡ None → at_hand s v ≡ StoresTo q
@@ -65,13 +63,13 @@ stores-at-hand law s p v q co live loaded r missed = by r.trap r.is_it r.traps m
     by (Address word) e is miss = cc
     by (Privileged word) e is miss = cc
     by (Raised x) e is miss = cc
-    by (Dead there w) e is miss = absurd (none-lost s p v (Dead there w) live is there w refl)
+    by (Dead there w) e is miss = absurd (live there w is)
 
 -- who asks for it: the store at hand
-pub needed-asks : ReadOnlyStores → (c : Course) (p : ProcId) (v q : ℕ) (kind : MoveKind) → IsSound c → MayStep (state_of c) p.0 v → StaysNeeding (state_of c) p.0 v q kind (state_of c) → Asks (state_of c) (Step p) (home_wish (state_of c) q kind) None
-needed-asks law c p v q kind sound may n =
+pub needed-asks : ReadOnlyStores → (c : Course) (p : ProcId) (v q : ℕ) (kind : MoveKind) → ReachesNoneLost (state_of c) p.0 v → IsSound c → MayStep (state_of c) p.0 v → StaysNeeding (state_of c) p.0 v q kind (state_of c) → Asks (state_of c) (Step p) (home_wish (state_of c) q kind) None
+needed-asks law c p v q kind live sound may n =
     let s = state_of c in
-    let acts = stores-at-hand law s p.0 v q (sound.going may.goes_on.not_ended).coherent refl may.runs.loaded n.reaches n.stores in
+    let acts = stores-at-hand law s p.0 v q (sound.going may.goes_on.not_ended).coherent live may.runs.loaded n.reaches n.stores in
     record { v = v; runs = may.runs; shares = false; needs = inl (ap (needed s v false) acts ∙ n.needs.needs); at_home = refl }
 
 -- the disk read at hand
@@ -81,13 +79,13 @@ left-asks s p v q act kind left reads n =
     record { v = v; runs = left.traps.runs; shares = false; needs = inl (ap (needed s v false) acts ∙ n.needs); at_home = refl }
 
 -- and the packet in hand
-pub packet-asks : (s : GuestState) (q : ℕ) (kind : MoveKind) (hand : Option WirePacket) → s.hand ≡ option_map hand_of hand → hand ≢ None → s.devices.armed ≡ Some q → s.dead ≡ no_cells → NeedsMove s q kind → Asks s Packet (home_wish s q kind) None
+pub packet-asks : (s : GuestState) (q : ℕ) (kind : MoveKind) (hand : Option WirePacket) → s.hand ≡ option_map hand_of hand → hand ≢ None → s.devices.armed ≡ Some q → HandLives s → NeedsMove s q kind → Asks s Packet (home_wish s q kind) None
 packet-asks s q kind None is some armed live n = absurd (some refl)
 packet-asks s q kind (Some x) is some armed live n = record {
   packet = hand_of x;
   in_hand = is;
   armed = armed;
-  lives = ap (λ (l : List Bool). get_or l x.cell.0 false) live ∙ none-dead x.cell.0;
+  lives = live (hand_of x) is;
   shares = false;
   needs = n.needs;
   at_home = refl;
@@ -165,6 +163,7 @@ rebacked-spared c m d same pages r = record {
   counted = λ ps ns is. r.counted ps ns (rw (ap (λ (y : Course). y.counters) same) is);
   ended = r.ended ∙ ap (λ (y : Course). y.ended) same;
   hand = r.hand ∙ ap (λ (y : Course). y.hand) same;
+  dead = r.dead ∙ ap (λ (y : Course). y.dead) same;
   sent_from = r.sent_from ∙ ap (λ (y : Course). y.sent_from) same;
   seconds = r.seconds ∙ ap (λ (y : Course). length y.seconds.items) same;
   places = r.places ∙ ap (λ (y : Course). length y.places.items) same;
@@ -216,13 +215,13 @@ give-asks s p v q act left hand gives = record {
         ap-if (needed s v true) may (SendsPage t.send_page t.send_length to) NoAct ∙ giving may (may_offer s t.send_page t.send_length to && not (page s t.send_page).shared) t.send_page is
 
 -- and so does a packet that hands on a frame
-pub delivery-asks : (s : GuestState) (q : ℕ) (packet : InHand) → s.hand ≡ Some packet → s.devices.armed ≡ Some q → s.dead ≡ no_cells → length packet.bytes ≡ 4096
+pub delivery-asks : (s : GuestState) (q : ℕ) (packet : InHand) → s.hand ≡ Some packet → s.devices.armed ≡ Some q → HandLives s → length packet.bytes ≡ 4096
     → Asks s Packet (home_wish s q TakeShared) (Some (Delivers (hand_place s) packet))
 delivery-asks s q packet is armed live full = record {
   packet = packet;
   in_hand = is;
   armed = armed;
-  lives = ap (λ (l : List Bool). get_or l packet.cell false) live ∙ none-dead packet.cell;
+  lives = live packet is;
   shares = true;
   needs = ap (λ (n : ℕ). if n == 4096 then Some (record { page = q; kind = TakeShared; operation = Some (Delivers (hand_place s) packet) }) else for_change s q) full;
   at_home = refl;

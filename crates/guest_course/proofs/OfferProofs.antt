@@ -1,5 +1,5 @@
 -- The packet of a send goes on the wire to its receiver, be it a copy or with its page's frame.
-use Rattle.std.proofs.Common.{◌≡◌, ℕ, zero, suc, [], ◌∷◌, ◌/◌, ◌*◌, ◌<◌, ◌≤◌, ◌==◌, ◌&&◌, not, nat_lt, nat_le, if◌then◌else◌, Bool, true, false, List, Option, Some, None, length, map, slice_get, slice_index, refl, sym, ap, ◌∙◌, subst, arith}
+use Rattle.std.proofs.Common.{◌≡◌, ℕ, zero, suc, [], ◌∷◌, ◌/◌, ◌<◌, ◌≤◌, ◌==◌, ◌&&◌, not, nat_lt, nat_le, if◌then◌else◌, Bool, true, false, List, Option, Some, None, length, map, slice_get, slice_index, refl, sym, ap, ◌∙◌, subst, arith}
 use Rattle.std.specs.Borrow.{Bor}
 use Rattle.std.specs.Option.{option_map, option_copied}
 use Rattle.std.proofs.lemmas.Bool.{eqb-true, ltb-true, leb-true}
@@ -13,7 +13,7 @@ use Rattle.private_machine.specs.Devices.{may_send}
 use Rattle.isolation_law.specs.Content.{content}
 use Rattle.isolation_law.specs.GuestState.{GuestState, page}
 use Rattle.isolation_law.specs.Needs.{may_offer, is_home_of_receiver}
-use Rattle.isolation_law.specs.Surroundings.{Surroundings, cell_of_frame}
+use Rattle.isolation_law.specs.Surroundings.{cell_of_frame}
 use Rattle.wire_queue.specs.Packets.{Handed}
 use Rattle.wire_queue.specs.Lines.{Line, Fits, LiesOn, IsHome}
 use Rattle.virtual_subnet.specs.Offering.{handed_of, handed_on, offered}

@@ -2,28 +2,45 @@
 use Rattle.std.proofs.Common.{◌≡◌, ◌⊎◌, inl, inr, ◌+◌, ℕ, zero, suc, ◌<◌, ◌≤◌, List, [], ◌∷◌, Some, None, length, map, get_or, set, refl, sym, ap, ◌∙◌, subst, arith}
 use Rattle.std.specs.Global.{Vec}
 use Rattle.base_words.specs.Limits.{most_processors}
+use Rattle.base_words.specs.declared.events.Event.{Event}
 use Rattle.base_words.specs.Halves.{Half}
 use Rattle.isolation_law.specs.Surroundings.{Surroundings}
 use Rattle.isolation_law.specs.Parts.{Processor}
-use Rattle.isolation_law.specs.GuestState.{idle, processor}
+use Rattle.isolation_law.specs.GuestState.{GuestState, idle, processor}
 use Rattle.isolation_law.specs.Coherence.{Coherent}
+use Rattle.isolation_law.specs.LiveCells.{UsesLive}
+use Rattle.isolation_law.specs.MachineEvent.{Row}
 use Rattle.guest_course.specs.declared.place.Place.{Place}
 use Rattle.guest_course.specs.declared.course.Course.{Course}
 use Rattle.guest_course.specs.CourseView.{processor_of, state_of}
 use Rattle.guest_course.specs.CourseRules.{IsGoing, IsSound, StandsAt, AllStand}
 use Rattle.guest_course.specs.Rebacking.{Rebacked}
 
-going-rebacked : (c d : Course) → Rebacked c d → IsGoing c → Coherent (state_of d) → IsGoing d
-going-rebacked c d r going co = record {
-  coherent = co;
+-- a guest is coherent and uses no cell that has failed
+pub record IsWell (s : GuestState) : Type 0 where
+  pub coherent : Coherent s
+  pub live : UsesLive s
+
+pub is-well : {c : Course} → IsGoing c → IsWell (state_of c)
+is-well going = record { coherent = going.coherent; live = going.live }
+
+-- an entry keeps that
+pub well : ((s t : GuestState) (e : Event) → Coherent s → Row s e t → t.end ≡ None → Coherent t) → ((s t : GuestState) (e : Event) → UsesLive s → Row s e t → UsesLive t)
+    → (s t : GuestState) (e : Event) → IsWell s → Row s e t → t.end ≡ None → IsWell t
+well keeps stays s t e w row on = record { coherent = keeps s t e w.coherent row on; live = stays s t e w.live row }
+
+going-rebacked : (c d : Course) → Rebacked c d → IsGoing c → IsWell (state_of d) → IsGoing d
+going-rebacked c d r going w = record {
+  coherent = w.coherent;
+  live = w.live;
   pages = rw r.devs going.pages ∙ sym r.long;
   counted = rw (r.around, r.long) (r.counted _ _ going.counted);
 }
 
 pub sound-rebacked : (c d : Course) → IsSound c → Rebacked c d
     → ((p v : ℕ) → (processor (state_of d) p).loaded ≡ Some v → v < length c.vcpus.items)
-    → (d.ended ≡ None → Coherent (state_of d)) → IsSound d
-sound-rebacked c d sound r loaded co =
+    → (d.ended ≡ None → IsWell (state_of d)) → IsSound d
+sound-rebacked c d sound r loaded w =
     let sized = sound.sized in
     record {
       sized = record {
@@ -35,12 +52,13 @@ sound-rebacked c d sound r loaded co =
         due = r.due ∙ sized.due ∙ sym r.places;
         few_pages = subst (λ (k : ℕ). k ≤ 2048) (sym r.long) sized.few_pages;
         cells = rw (r.sent_from, r.devs) sized.cells;
+        dead = rw r.dead sized.dead;
       };
       agree = rw (r.devs, r.vcpus) sound.agree;
       loaded = λ p v is. subst (λ (l : Vec _). v < length l.items) (sym r.vcpus) (loaded p v is);
       places = rw r.around r.stands;
       in_hand = rw (r.hand, r.around) sound.in_hand;
-      going = λ on. going-rebacked c d r (sound.going (sym r.ended ∙ on)) (co on);
+      going = λ on. going-rebacked c d r (sound.going (sym r.ended ∙ on)) (w on);
     }
 
 -- a processor's node with its frames is told whatever is loaded on it

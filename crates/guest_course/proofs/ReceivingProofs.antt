@@ -1,5 +1,5 @@
 -- A packet that is copied into the page that is armed is its row, and keeps what holds of a guest.
-use Rattle.std.proofs.Common.{◌≡◌, ℕ, ◌&&◌, ◌++◌, ◌∷◌, [], Bool, true, false, List, Option, Some, None, length, map, replicate, get_or, refl, sym, ap, ◌∙◌, length-set}
+use Rattle.std.proofs.Common.{◌≡◌, ℕ, ◌++◌, ◌∷◌, [], true, false, List, Option, Some, None, length, map, get_or, sym, ap, ◌∙◌, length-set}
 use Rattle.std.proofs.lemmas.List.{length-map, map-append}
 use Rattle.private_machine.specs.declared.vcpu.Vcpu.{Vcpu}
 use Rattle.private_machine.specs.Vcpu.{no_vcpu, with_line_on}
@@ -13,7 +13,7 @@ use Rattle.guest_devs.specs.Shown.{Agree}
 use Rattle.pmap_table.specs.PageMap.{PageMap, with_page}
 use Rattle.isolation_law.specs.GuestState.{processor}
 use Rattle.isolation_law.specs.Content.{content}
-use Rattle.isolation_law.specs.PacketRows.{Receives, with_received}
+use Rattle.isolation_law.specs.PacketRows.{Receives, with_received, Discards}
 use Rattle.isolation_law.specs.Phases.{GoesOn, all_halted}
 use Rattle.guest_course.specs.declared.course.Course.{Course}
 use Rattle.guest_course.specs.declared.got.GotPacket.{GotPacket}
@@ -21,10 +21,13 @@ use Rattle.guest_course.specs.CourseView.{state_of, got_of}
 use Rattle.guest_course.specs.CourseRules.{IsWritable, IsSound}
 use Rattle.guest_course.specs.EmulateCalls.{StaysLoaded}
 use Rattle.guest_course.proofs.CommandRows.{needs-none}
-use Rattle.guest_course.proofs.DirectRow.{none-dead}
 use Rattle.guest_course.proofs.EmulateProofs.{Remade}
 use Rattle.guest_course.proofs.HaltLemmas.{halted-unlinked, halted-lined}
 use Rattle.guest_course.proofs.StepProofs.{goes-on}
+use Rattle.guest_course.specs.ReceivingCalls.{HandLives, HandIsLost}
+use Rattle.std.specs.Global.{Vec}
+use Rattle.private_machine.specs.Operation.{Packet}
+use Rattle.guest_course.proofs.RebackLemmas.{IsWell}
 
 -- what the parts of a guest become by a packet that comes into a page
 pub record Received (c d : Course) (q : ℕ) (x : GotPacket) : Type 0 where
@@ -47,13 +50,13 @@ state-received c d q x armed r =
     ap state_of r.same ∙ (λ i. record s { vcpus = vcpus i; devices = devices i; pages = (r.pmap i).pages; spares = (r.pmap i).spares; received = received i; hand = None })
 
 pub receives-row : (c d : Course) (q : ℕ) (x : GotPacket) → IsSound c → GoesOn (state_of c) → IsWritable (page_at c.pmap.pages q) → (state_of c).devices.armed ≡ Some q
-    → (state_of c).hand ≡ Some (got_of x) → Received c d q x → Receives (state_of c) (length c.received.items) (state_of d)
-receives-row c d q x sound on may armed hand r =
+    → (state_of c).hand ≡ Some (got_of x) → HandLives (state_of c) → Received c d q x → Receives (state_of c) (length c.received.items) (state_of d)
+receives-row c d q x sound on may armed hand live r =
     let s = state_of c in
     record {
       q = q;
       packet = got_of x;
-      delivered = record { goes_on = on; armed = armed; in_hand = hand; lives = none-dead x.cell.0; next = sym (length-map c.received.items got_of) };
+      delivered = record { goes_on = on; armed = armed; in_hand = hand; lives = live (got_of x) hand; next = sym (length-map c.received.items got_of) };
       shares = false;
       needs_nothing = needs-none s q may;
       after = state-received c d q x armed r;
@@ -73,6 +76,7 @@ received-remade c d q x sound on r =
       counted = λ pages nodes is. rw (ap (λ (y : Course). y.counters) r.same) is;
       ended = ap (λ (y : Course). y.ended) r.same;
       in_hand = rw (ap (λ (y : Course). y.hand) r.same) tt;
+      dead = ap (λ (y : Course). y.dead) r.same;
       cells = ap (λ (y : Course). length y.sent_from.items) r.same ∙ sound.sized.cells ∙ ap (λ (y : DeviceState). length y.page.sent) (sym r.devs);
       vcpus = vcpus;
       fits = record {
@@ -97,3 +101,43 @@ received-stays c d q x r = record {
 pub received-goes-on : (c d : Course) (q : ℕ) (x : GotPacket) → Received c d q x → GoesOn (state_of c) → GoesOn (state_of d)
 received-goes-on c d q x r =
     goes-on c d (ap all_halted r.vcpus ∙ halted-lined (map (unlinked_page q) c.vcpus.items) ∙ halted-unlinked q c.vcpus.items) (ap (λ (y : Course). y.ended) r.same)
+
+-- a packet that is thrown away
+pub record Discarded (c d : Course) (x : GotPacket) : Type 0 where
+  pub same : d ≡ record c { hand = None; discarded = d.discarded }
+  pub items : d.discarded.items ≡ c.discarded.items ++ x ∷ []
+
+pub discards-row : (c d : Course) (x : GotPacket) → GoesOn (state_of c) → (lost : HandIsLost (state_of c)) → lost.packet ≡ got_of x → Discarded c d x → Discards (state_of c) (length c.discarded.items) (state_of d)
+discards-row c d x on lost is r =
+    let s = state_of c in
+    let items = ap (map got_of) r.items ∙ map-append got_of c.discarded.items (x ∷ []) ∙ ap (λ (y : Packet). s.discarded ++ y ∷ []) (sym is) in
+    record {
+      goes_on = on;
+      packet = lost.packet;
+      in_hand = lost.in_hand;
+      failed = lost.lost;
+      next = sym (length-map c.discarded.items got_of);
+      after = ap state_of r.same ∙ (λ i. record s { hand = None; discarded = items i });
+    }
+
+pub discards-sound : (c : Course) (list : Vec GotPacket) → IsSound c → (c.ended ≡ None → IsWell (state_of (record c { hand = None; discarded = list }))) → IsSound (record c { hand = None; discarded = list })
+discards-sound c list sound w =
+    let sized = sound.sized in
+    record {
+      sized = record {
+        some_vcpus = sized.some_vcpus;
+        few_vcpus = sized.few_vcpus;
+        transfers = sized.transfers;
+        seconds = sized.seconds;
+        few_processors = sized.few_processors;
+        due = sized.due;
+        few_pages = sized.few_pages;
+        cells = sized.cells;
+        dead = sized.dead;
+      };
+      agree = sound.agree;
+      loaded = sound.loaded;
+      places = sound.places;
+      in_hand = tt;
+      going = λ on. record { coherent = (w on).coherent; live = (w on).live; pages = (sound.going on).pages; counted = (sound.going on).counted };
+    }

@@ -20,7 +20,6 @@ use Rattle.private_machine.specs.TrapAccess.{trapped_access, missed_access, acce
 use Rattle.isolation_law.specs.Surroundings.{node_of_processor}
 use Rattle.isolation_law.specs.GuestState.{GuestState, page, processor, vcpu_of, second_level, with_page, with_tlb, with_second_level}
 use Rattle.isolation_law.specs.Content.{content}
-use Rattle.isolation_law.specs.Start.{no_cells}
 use Rattle.isolation_law.specs.Coherence.{Coherent}
 use Rattle.isolation_law.specs.DirectStep.{lost_frames, with_inputs, sight}
 use Rattle.isolation_law.specs.Needs.{none_of, for_lost}
@@ -30,10 +29,10 @@ use Rattle.guest_course.specs.declared.granting.Granted.{Granted}
 use Rattle.guest_course.specs.Joining.{waits_for}
 use Rattle.guest_course.specs.Granting.{HasAccess, IsInRange, LeadsTo, Grants}
 use Rattle.guest_course.specs.RefillCalls.{StaysDenied, ReachesPage, half_of, second_of, IsFilled}
-use Rattle.guest_course.specs.StepCalls.{MayStep, TrapsFor}
-use Rattle.guest_course.proofs.DirectRow.{joined-vcpus, regs-same, no-frame-lost}
+use Rattle.guest_course.specs.StepCalls.{MayStep, TrapsFor, ReachesNoneLost}
+use Rattle.guest_course.proofs.DirectRow.{joined-vcpus, regs-same}
 use Rattle.guest_course.proofs.JoinLemmas.{at-lined}
-use Rattle.guest_course.proofs.TrapLemmas.{has-access, told-is, lacks, is-aligned, is-in-range, never-dead}
+use Rattle.guest_course.proofs.TrapLemmas.{has-access, told-is, lacks, is-aligned, is-in-range}
 
 -- what is told of traps
 abbrev pub TrapsTell : Type 0
@@ -47,11 +46,10 @@ pub access-is : TrapsTell → (s : GuestState) (p v : ℕ) (cause : TrapCause) �
 access-is law s p v cause t = subst (λ (c : TrapCause). HasAccess (vcpu_of s v).registers c) t.told (has-access (vcpu_of s v).registers t.trap (tells law s p v t.trap t.traps))
 
 -- no processor traps for a frame that is lost
-pub none-lost : (s : GuestState) (p v : ℕ) (trap : Trap) → s.dead ≡ no_cells → step_on s p v ≡ Err trap → (there : Reached) (w : Wanted) → trap ≡ Dead there w → ⊥
-none-lost s p v trap live is there w lost =
-    never-dead (sight (with_inputs s v) p v) (with_inputs s v).pages (vcpu_of (with_inputs s v) v).registers there w (no-frame-lost s live) (is ∙ ap Err lost)
+pub none-lost : (s : GuestState) (p v : ℕ) (trap : Trap) → ReachesNoneLost s p v → step_on s p v ≡ Err trap → (there : Reached) (w : Wanted) → trap ≡ Dead there w → ⊥
+none-lost s p v trap live is there w lost = live there w (is ∙ ap Err lost)
 
-pub accessed-same : TrapsTell → (s : GuestState) (p v : ℕ) (cause : TrapCause) → s.dead ≡ no_cells → (t : TrapsFor s p v cause) → access_of (vcpu_of s v).registers cause ≡ trapped_access t.trap
+pub accessed-same : TrapsTell → (s : GuestState) (p v : ℕ) (cause : TrapCause) → ReachesNoneLost s p v → (t : TrapsFor s p v cause) → access_of (vcpu_of s v).registers cause ≡ trapped_access t.trap
 accessed-same law s p v cause live t =
     ap (access_of (vcpu_of s v).registers) (sym t.told) ∙ told-is (vcpu_of s v).registers t.trap (tells law s p v t.trap t.traps) (none-lost s p v t.trap live t.traps)
 
@@ -75,7 +73,7 @@ pub denied-none : (s : GuestState) (p v : ℕ) (cause : TrapCause) (t : TrapsFor
 denied-none s p v cause t none = ap (is_granted s v) none
 
 -- nor has a page to be collapsed where no frame is lost
-kept-live : (s : GuestState) (p v : ℕ) (trap : Trap) → s.dead ≡ no_cells → step_on s p v ≡ Err trap → for_lost s trap ≡ None
+kept-live : (s : GuestState) (p v : ℕ) (trap : Trap) → ReachesNoneLost s p v → step_on s p v ≡ Err trap → for_lost s trap ≡ None
 kept-live s p v Line live is = refl
 kept-live s p v (FetchMiss w) live is = refl
 kept-live s p v (DataMiss word w) live is = refl
@@ -85,7 +83,7 @@ kept-live s p v (Privileged word) live is = refl
 kept-live s p v (Raised x) live is = refl
 kept-live s p v (Dead there w) live is = absurd (none-lost s p v (Dead there w) live is there w refl)
 
-pub stays-denied : (s t : GuestState) (p v : ℕ) (cause : TrapCause) (x : TrapsFor s p v cause) → s.dead ≡ no_cells → is_granted s v (trapped_access x.trap) ≡ false → t ≡ s → StaysDenied s p v cause t
+pub stays-denied : (s t : GuestState) (p v : ℕ) (cause : TrapCause) (x : TrapsFor s p v cause) → ReachesNoneLost s p v → is_granted s v (trapped_access x.trap) ≡ false → t ≡ s → StaysDenied s p v cause t
 stays-denied s t p v cause x live denied same = record { why = record { why = x; denied = denied; kept = kept-live s p v x.trap live x.traps }; same = same }
 
 -- the half that joined is the access's
@@ -135,7 +133,7 @@ abbrev pub ReadOnlyNeeds : Type 0
 ReadOnlyNeeds = (s : GuestState) (p v word : ℕ) (w : Wanted) (offset : ℕ) → Coherent s → (processor s p).loaded ≡ Some v → step_on s p v ≡ Err (ReadOnly word w) → led (content s) v w.unit w.purpose w.address ≡ Ok (Memory offset) → ((page s (offset / 4096)).shared ≡ true) ⊎ ((page s (offset / 4096)).replicas ≢ [])
 
 -- such a store is into a page that needs a move
-pub store-kept : ReadOnlyNeeds → (s : GuestState) (p v q : ℕ) → Coherent s → s.dead ≡ no_cells → (processor s p).loaded ≡ Some v → (r : ReachesPage s p v q) → missed_access r.trap ≡ None
+pub store-kept : ReadOnlyNeeds → (s : GuestState) (p v q : ℕ) → Coherent s → ReachesNoneLost s p v → (processor s p).loaded ≡ Some v → (r : ReachesPage s p v q) → missed_access r.trap ≡ None
     → ((page s q).shared ≡ true) ⊎ ((page s q).replicas ≢ [])
 store-kept law s p v q co live loaded r stores = by r.trap r.is_it r.traps stores
   where

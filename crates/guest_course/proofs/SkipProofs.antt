@@ -49,6 +49,7 @@ passed-rebacked c d e all f =
       counted = f.counted;
       ended = ap (λ (y : Course). y.ended) f.same;
       hand = ap (λ (y : Course). y.hand) f.same;
+      dead = ap (λ (y : Course). y.dead) f.same;
       sent_from = ap (λ (y : Course). y.sent_from) f.same;
       seconds = ap (λ (y : Course). length y.seconds.items) f.same;
       places = ap (λ (y : Course). length y.places.items) f.same;

@@ -1,5 +1,5 @@
 -- A step through a processor's TLB keeps what holds of a guest, and is its row.
-use Rattle.std.proofs.Common.{◌≡◌, ℕ, ◌<◌, ◌≤◌, ◌==◌, if◌then◌else◌, Bool, true, false, Some, None, Result, Ok, List, length, map, get_or, replicate, refl, sym, ap, ◌∙◌, subst, length-set}
+use Rattle.std.proofs.Common.{◌≡◌, ℕ, ◌<◌, ◌≤◌, ◌==◌, if◌then◌else◌, Bool, true, false, Some, None, Result, Ok, List, length, map, get_or, refl, sym, ap, ◌∙◌, subst, length-set}
 use Rattle.base_words.specs.Limits.{most_processors}
 use Rattle.base_words.specs.declared.trap.Access.{Access}
 use Rattle.base_words.specs.declared.trap.DataAccess.{DataAccess}
@@ -35,6 +35,9 @@ use Rattle.guest_course.proofs.PlaceLemmas.{loaded-below}
 use Rattle.guest_course.proofs.ShownLemmas.{stepped-length}
 use Rattle.guest_course.proofs.LengthLemmas.{stepped-long, halted-shown, halted-at}
 use Rattle.guest_course.proofs.DirectRow.{left_by_step, traps-for, direct-row, direct-pages}
+use Rattle.guest_course.specs.Failures.{dead_cells, lost_in}
+use Rattle.isolation_law.specs.LiveCells.{UsesLive}
+use Rattle.guest_course.proofs.RebackLemmas.{IsWell}
 
 -- what a step of the hardware leaves as it was
 pub record Hardware (c d : Course) : Type 0 where
@@ -44,7 +47,7 @@ pub record Hardware (c d : Course) : Type 0 where
   pub agree : Agree d.devs.state d.vcpus.items
 
 abbrev outcome : Course → ℕ → ℕ → Result Outcome TrapCause
-outcome c p v = outcome_at c.pmap.pages c.vcpus.items c.devs.state.page v (processor (state_of c) p).tlb
+outcome c p v = outcome_at (lost_in c.around.site.shape c.dead) c.pmap.pages c.vcpus.items c.devs.state.page v (processor (state_of c) p).tlb
 
 -- what is true of a step that the hardware made
 pub record Made (c d : Course) (p v : ℕ) (access : Access) : Type 0 where
@@ -56,7 +59,7 @@ pub record Made (c d : Course) (p v : ℕ) (access : Access) : Type 0 where
 -- the definition's step, with its pages
 pages-of : (c d : Course) (p v : ℕ) (access : Access) → Made c d p v access
     → (done : Done) × (step_on (state_of c) p v ≡ Ok done) × (access ≡ access_told v (held_of (with_inputs (state_of c) v)) done) × (d.pmap.pages ≡ (stepped_through v (held_of (with_inputs (state_of c) v)) done).held.pages)
-pages-of c d p v access m = direct-pages (state_of c) p v (is_due v (waits_for c.vcpus.items c.devs.state.page) (vcpu_of (state_of c) v)) d.pmap.pages m.executed.between access refl m.sound.sized.some_vcpus refl m.executed.made
+pages-of c d p v access m = direct-pages (state_of c) p v (is_due v (waits_for c.vcpus.items c.devs.state.page) (vcpu_of (state_of c) v)) d.pmap.pages m.executed.between access m.sound.sized.some_vcpus refl m.executed.made
 
 pub stays-long : (c d : Course) (p v : ℕ) (access : Access) → Made c d p v access → length d.pmap.pages ≡ length c.pmap.pages
 stays-long c d p v access m =
@@ -74,7 +77,7 @@ mid-state c d p v access m =
 pub executes : (c d x : Course) (p v : ℕ) (access : Access) → Made c d p v access → state_of x ≡ data_noted p access.«data» (state_of d) → StepsDirect (state_of c) p v (state_of x) access
 executes c d x p v access m noted =
     let e = m.executed in
-    let row = direct-row (state_of c) p v (is_due v (waits_for c.vcpus.items c.devs.state.page) (vcpu_of (state_of c) v)) d.pmap.pages e.between access refl m.sound.sized.some_vcpus refl m.may e.made in
+    let row = direct-row (state_of c) p v (is_due v (waits_for c.vcpus.items c.devs.state.page) (vcpu_of (state_of c) v)) d.pmap.pages e.between access m.sound.sized.some_vcpus refl m.may e.made in
     subst (λ (t : GuestState). StepsDirect (state_of c) p v t access) (sym (noted ∙ ap (data_noted p access.«data») (mid-state c d p v access m))) row
 
 -- a trap leaves the guest as it was
@@ -85,7 +88,7 @@ stays c d p v cause h u =
 
 pub traps : (c d : Course) (p v : ℕ) (cause : TrapCause) → IsSound c → MayStep (state_of c) p v → Hardware c d → Untouched (outcome c p v) (parts_of c) (parts_of d) cause → TrapsUnchanged (state_of c) p v (state_of d) cause
 traps c d p v cause sound may h u = record {
-  why = traps-for (state_of c) p v (is_due v (waits_for c.vcpus.items c.devs.state.page) (vcpu_of (state_of c) v)) d.pmap.pages d.vcpus.items cause refl sound.sized.some_vcpus refl u.made;
+  why = traps-for (state_of c) p v (is_due v (waits_for c.vcpus.items c.devs.state.page) (vcpu_of (state_of c) v)) d.pmap.pages d.vcpus.items cause sound.sized.some_vcpus refl u.made;
   same = stays c d p v cause h u;
 }
 
@@ -150,8 +153,8 @@ pub record Noted (d x : Course) : Type 0 where
   pub dues : length x.due.items ≡ length d.due.items
   pub counted : (pages nodes : ℕ) → AreCounters pages nodes d.counters → AreCounters pages nodes x.counters
 
-going-after : (c d x : Course) (p v : ℕ) (access : Access) → Made c d p v access → Noted d x → Coherent (state_of x) → IsGoing x
-going-after c d x p v access m n co =
+going-after : (c d x : Course) (p v : ℕ) (access : Access) → Made c d p v access → Noted d x → IsWell (state_of x) → IsGoing x
+going-after c d x p v access m n w =
     let going = m.sound.going m.may.goes_on.not_ended in
     let long = stays-long c d p v access m in
     let pmap : x.pmap ≡ d.pmap = ap (λ (y : Course). y.pmap) n.same in
@@ -160,13 +163,14 @@ going-after c d x p v access m n co =
     let counters : d.counters ≡ c.counters = ap (λ (y : Course). y.counters) m.hardware.same in
     let counted : AreCounters (length c.pmap.pages) (length c.around.site.shape.cells) x.counters = n.counted _ _ (rw counters going.counted) in
     record {
-      coherent = co;
+      coherent = w.coherent;
+      live = w.live;
       pages = ap (λ y. y.state.pages) devs ∙ ap (λ (y : DeviceState). y.pages) m.hardware.devs ∙ going.pages ∙ sym long ∙ ap (λ y. length y.pages) (sym pmap);
       counted = rw (pmap, around, long) counted;
     }
 
-pub sound-after : (c d x : Course) (p v : ℕ) (access : Access) → Made c d p v access → Noted d x → Coherent (state_of x) → IsSound x
-sound-after c d x p v access m n co =
+pub sound-after : (c d x : Course) (p v : ℕ) (access : Access) → Made c d p v access → Noted d x → IsWell (state_of x) → IsSound x
+sound-after c d x p v access m n w =
     let long = stays-long c d p v access m in
     let sized = m.sound.sized in
     let pmap : x.pmap ≡ d.pmap = ap (λ (y : Course). y.pmap) n.same in
@@ -194,12 +198,13 @@ sound-after c d x p v access m n co =
         due = n.dues ∙ ap (λ l. length l.items) dues ∙ sized.due ∙ ap (λ (l : Vec Place). length l.items) (sym places);
         few_pages = subst (λ (k : ℕ). k ≤ 2048) (sym pages) sized.few_pages;
         cells = ap (λ l. length l.items) from ∙ sized.cells ∙ ap length (sym sent);
+        dead = ap (λ (y : Course). length (dead_cells y.dead)) n.same ∙ ap (λ (y : Course). length (dead_cells y.dead)) m.hardware.same ∙ sized.dead;
       };
       agree = rw (devs, vcpus) m.hardware.agree;
       loaded = λ r u is. subst (λ (k : ℕ). u < k) (sym count) (m.sound.loaded r u (subst (λ (l : Vec Place). (get_or (map processor_of l.items) r idle).loaded ≡ Some u) places is));
       places = rw (around, places) m.sound.places;
       in_hand = rw (hand, around) m.sound.in_hand;
-      going = λ _. going-after c d x p v access m n co;
+      going = λ _. going-after c d x p v access m n w;
     }
 
 -- a course with the same parts is as sound
@@ -228,6 +233,7 @@ sound-stays c d p v cause sound h u =
         due = ap (λ l. length l.items) dues ∙ sized.due ∙ ap (λ (l : Vec Place). length l.items) (sym places);
         few_pages = subst (λ (l : List Page). length l ≤ 2048) (sym pages) sized.few_pages;
         cells = ap (λ (y : Course). length y.sent_from.items) same ∙ sized.cells ∙ ap (λ (y : DevicePage). length y.sent) (sym page);
+        dead = ap (λ (y : Course). length (dead_cells y.dead)) same ∙ sized.dead;
       };
       agree = h.agree;
       loaded = λ r w is. subst (λ (k : ℕ). w < k) (sym count) (sound.loaded r w (subst (λ (l : Vec Place). (get_or (map processor_of l.items) r idle).loaded ≡ Some w) places is));
@@ -237,6 +243,7 @@ sound-stays c d p v cause sound h u =
           let going = sound.going (sym ends ∙ on) in
           record {
             coherent = subst Coherent (sym (stays c d p v cause h u)) going.coherent;
+            live = subst UsesLive (sym (stays c d p v cause h u)) going.live;
             pages = ap (λ (y : DeviceState). y.pages) h.devs ∙ going.pages ∙ ap length (sym pages);
             counted = rw (pages, around, counters) going.counted;
           };

@@ -1,5 +1,5 @@
 -- A page that is taken shared: the end of that move by its own operation is its row.
-use Rattle.std.proofs.Common.{◌≡◌, ◌≢◌, ◌⊎◌, inl, inr, subst, nat_eq, ℕ, ◌==◌, if◌then◌else◌, Bool, true, false, List, Option, Some, None, Ok, length, map, set, refl, sym, ap, ◌∙◌, length-set}
+use Rattle.std.proofs.Common.{◌≡◌, ◌≢◌, ◌⊎◌, inl, inr, subst, nat_eq, ℕ, ◌==◌, Bool, true, false, List, Option, Some, None, Ok, length, map, set, refl, sym, ap, ◌∙◌, length-set}
 use Rattle.std.specs.Bool.{OnTrue}
 use Rattle.std.proofs.lemmas.Bool.{eqb-true}
 use Rattle.std.proofs.lemmas.Bool.Decides.{eqb_tells}
@@ -7,18 +7,18 @@ use Rattle.std.proofs.lemmas.List.{map-set}
 use Rattle.base_words.specs.declared.device.DeviceRegister.TheVariants.{DiskCommand}
 use Rattle.base_words.specs.Coprocessor.{interrupts}
 use Rattle.private_machine.specs.Backing.{Copy, Page, page_at}
-use Rattle.private_machine.specs.DeviceAct.{Act, ReadsDisk}
+use Rattle.private_machine.specs.DeviceAct.{ReadsDisk}
 use Rattle.private_machine.specs.Devices.{commanded}
 use Rattle.private_machine.specs.Operation.{Packet, Operation as Purpose, ReadsBlock, Delivers}
-use Rattle.private_machine.specs.OwnStep.{joined, attempted, own_step}
+use Rattle.private_machine.specs.OwnStep.{joined, attempted}
 use Rattle.private_machine.specs.PageMove.{taken, spares_taken}
-use Rattle.private_machine.specs.PrivateMachine.{PrivateMachine, vcpu}
+use Rattle.private_machine.specs.PrivateMachine.{vcpu}
 use Rattle.guest_devs.specs.declared.act.DevAct.{DevAct}
 use Rattle.guest_devs.specs.declared.act.DevAct.TheVariants as acts
 use Rattle.trap_emulate.specs.Emulation.{Stores, Defers}
 use Rattle.isolation_law.specs.Content.{content, with_own}
 use Rattle.isolation_law.specs.Dues.{without_due}
-use Rattle.isolation_law.specs.GuestState.{GuestState, processor}
+use Rattle.isolation_law.specs.GuestState.{GuestState}
 use Rattle.isolation_law.specs.StepAct.{at_hand}
 use Rattle.isolation_law.specs.StepRows.{EndsRead, IsEmulated, taken_shared}
 use Rattle.guest_course.specs.declared.course.Course.{Course}
@@ -26,7 +26,6 @@ use Rattle.guest_course.specs.declared.task.Task.TheVariants as tasks
 use Rattle.guest_course.specs.Acting.{IsOwnRead, IsTaken}
 use Rattle.guest_course.specs.CourseView.{surroundings, purpose_of, due_of, state_of}
 use Rattle.guest_course.specs.CourseRules.{AllStand}
-use Rattle.guest_course.specs.EmulateCalls.{LeavesAct}
 use Rattle.guest_course.specs.Rebacking.{Rebacked}
 use Rattle.guest_course.specs.TakingCalls.{place_of}
 use Rattle.guest_course.proofs.CommandRows.{command-leads, command-does, acts_by, status}
@@ -64,6 +63,7 @@ taken-rebacked c d q target all f =
       counted = λ pages nodes is. rw (ap (λ (y : Course). y.counters) f.same) is;
       ended = ap (λ (y : Course). y.ended) f.same;
       hand = ap (λ (y : Course). y.hand) f.same;
+      dead = ap (λ (y : Course). y.dead) f.same;
       sent_from = ap (λ (y : Course). y.sent_from) f.same;
       seconds = ap (λ (y : Course). length y.seconds.items) f.same;
       places = ap (λ (y : Course). length y.places.items) f.same;

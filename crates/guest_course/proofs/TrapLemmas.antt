@@ -1,5 +1,5 @@
 -- What a trap tells of the access for which it came.
-use Rattle.std.proofs.Common.{◌≡◌, ◌≢◌, ℕ, ◌/◌, ◌%◌, ◌==◌, ◌&&◌, if◌then◌else◌, Bool, true, false, not, List, Option, Some, None, Result, Ok, Err, find, refl, sym, ap, ◌∙◌, subst}
+use Rattle.std.proofs.Common.{◌≡◌, ◌≢◌, ℕ, ◌/◌, ◌%◌, ◌==◌, ◌&&◌, if◌then◌else◌, Bool, true, false, not, List, Option, Some, None, Result, Ok, Err, find, refl, sym, ap, ◌∙◌, subst, true≢false}
 use Rattle.base_words.specs.declared.exception.Exception.{Exception}
 use Rattle.base_words.specs.declared.regs.Regs.{Regs}
 use Rattle.base_words.specs.Halves.{Half, is_of}
@@ -136,60 +136,67 @@ is-in-range x w l out = by (w.address % w.unit == 0) l.reaches
     by true e = l.ranges (sym (lack-same NoRange l.lack (ap (in_segment x w) (sym out) ∙ e)))
     by false e = l.ranges (sym (lack-same NoRange l.lack e))
 
--- where no frame is lost, no processor traps for one
-lost-through : (x : Sight) (w : Wanted) (h : Option Half) (there : Reached) → ((f : ℕ) → x.lost f ≡ false) → through_half x w h ≡ Err (DeadFrame there) → ⊥
-lost-through x w None there live e = cc
-lost-through x w (Some h) there live e = by (is_store w.purpose && not h.writable) (ap (λ (b : Bool). if b then Err (DeadFrame (at_half h)) else (if is_store w.purpose && not h.writable then Err NoStore else Ok (at_half h))) (sym (live h.frame)) ∙ e)
-  where
-    by : (b : Bool) → (if b then Err NoStore else Ok (at_half h)) ≡ Err (DeadFrame there) → ⊥
-    by true e = cc
-    by false e = cc
+same-frame : (at there : Reached) → ◌≡◌ {A = Result Reached Lack} (Err (DeadFrame at)) (Err (DeadFrame there)) → at ≡ there
+same-frame at there e = cc
 
-lost-segment : (x : Sight) (w : Wanted) (g : Segment) (there : Reached) → ((f : ℕ) → x.lost f ≡ false) → in_segment x w g ≡ Err (DeadFrame there) → ⊥
+-- no processor traps for a frame that isn't lost
+lost-through : (x : Sight) (w : Wanted) (h : Option Half) (there : Reached) → x.lost there.frame ≡ false → through_half x w h ≡ Err (DeadFrame there) → ⊥
+lost-through x w None there live e = cc
+lost-through x w (Some h) there live e = by (x.lost h.frame) refl e
+  where
+    granted : (b : Bool) → (if b then Err NoStore else Ok (at_half h)) ≡ Err (DeadFrame there) → ⊥
+    granted true e = cc
+    granted false e = cc
+
+    by : (b : Bool) → x.lost h.frame ≡ b → (if b then Err (DeadFrame (at_half h)) else (if is_store w.purpose && not h.writable then Err NoStore else Ok (at_half h))) ≡ Err (DeadFrame there) → ⊥
+    by true is e = true≢false (sym is ∙ ap (λ (r : Reached). x.lost r.frame) (same-frame (at_half h) there e) ∙ live)
+    by false is e = granted (is_store w.purpose && not h.writable) e
+
+lost-segment : (x : Sight) (w : Wanted) (g : Segment) (there : Reached) → x.lost there.frame ≡ false → in_segment x w g ≡ Err (DeadFrame there) → ⊥
 lost-segment x w Mapped there live e = lost-through x w (find (is_of (w.address / 4096) x.asid) x.tlb) there live e
 lost-segment x w Direct there live e = lost-through x w (find (is_of (w.address / 4096) x.asid) x.tlb) there live e
 lost-segment x w Outside there live e = cc
 
-lost-reached : (x : Sight) (w : Wanted) (there : Reached) → ((f : ℕ) → x.lost f ≡ false) → reached x w ≡ Err (DeadFrame there) → ⊥
+lost-reached : (x : Sight) (w : Wanted) (there : Reached) → x.lost there.frame ≡ false → reached x w ≡ Err (DeadFrame there) → ⊥
 lost-reached x w there live e = by (w.address % w.unit == 0) e
   where
     by : (b : Bool) → (if b then in_segment x w (segment x.user w.address) else Err NoRange) ≡ Err (DeadFrame there) → ⊥
     by true e = lost-segment x w (segment x.user w.address) there live e
     by false e = cc
 
-lost-fetch : (x : Sight) (own w : Wanted) (lack : Lack) (there : Reached) → ((f : ℕ) → x.lost f ≡ false) → reached x own ≡ Err lack → fetch_trap own lack ≡ Dead there w → ⊥
+lost-fetch : (x : Sight) (own w : Wanted) (lack : Lack) (there : Reached) → x.lost there.frame ≡ false → reached x own ≡ Err lack → fetch_trap own lack ≡ Dead there w → ⊥
 lost-fetch x own w NoRange there live is e = cc
 lost-fetch x own w NoHalf there live is e = cc
-lost-fetch x own w (DeadFrame f) there live is e = lost-reached x own f live is
+lost-fetch x own w (DeadFrame f) there live is e = let same : f ≡ there = cc in lost-reached x own there live (is ∙ ap (λ (r : Reached). Err (DeadFrame r)) same)
 lost-fetch x own w NoStore there live is e = cc
 
-lost-data : (x : Sight) (own w : Wanted) (word : ℕ) (r : Result Reached Lack) (at : Reached) (does : Effect) (there : Reached) → ((f : ℕ) → x.lost f ≡ false) → reached x own ≡ r → with_data word own at does r ≡ Err (Dead there w) → ⊥
+lost-data : (x : Sight) (own w : Wanted) (word : ℕ) (r : Result Reached Lack) (at : Reached) (does : Effect) (there : Reached) → x.lost there.frame ≡ false → reached x own ≡ r → with_data word own at does r ≡ Err (Dead there w) → ⊥
 lost-data x own w word (Ok to) at does there live is e = cc
 lost-data x own w word (Err NoRange) at does there live is e = cc
 lost-data x own w word (Err NoHalf) at does there live is e = cc
-lost-data x own w word (Err (DeadFrame f)) at does there live is e = lost-reached x own f live is
+lost-data x own w word (Err (DeadFrame f)) at does there live is e = let same : f ≡ there = cc in lost-reached x own there live (is ∙ ap (λ (r : Reached). Err (DeadFrame r)) same)
 lost-data x own w word (Err NoStore) at does there live is e = cc
 
-lost-accesses : (x : Sight) (w : Wanted) (word : ℕ) (at : Reached) (does : Effect) (own : Option Wanted) (there : Reached) → ((f : ℕ) → x.lost f ≡ false) → accesses x word at does own ≡ Err (Dead there w) → ⊥
+lost-accesses : (x : Sight) (w : Wanted) (word : ℕ) (at : Reached) (does : Effect) (own : Option Wanted) (there : Reached) → x.lost there.frame ≡ false → accesses x word at does own ≡ Err (Dead there w) → ⊥
 lost-accesses x w word at does None there live e = cc
 lost-accesses x w word at does (Some own) there live e = lost-data x own w word (reached x own) at does there live refl e
 
-lost-executes : (x : Sight) (w : Wanted) (word : ℕ) (at : Reached) (r : Result Effect Exception) (there : Reached) → ((f : ℕ) → x.lost f ≡ false) → executes x word at r ≡ Err (Dead there w) → ⊥
+lost-executes : (x : Sight) (w : Wanted) (word : ℕ) (at : Reached) (r : Result Effect Exception) (there : Reached) → x.lost there.frame ≡ false → executes x word at r ≡ Err (Dead there w) → ⊥
 lost-executes x w word at (Err exception) there live e = cc
 lost-executes x w word at (Ok does) there live e = lost-accesses x w word at does (wanted does.request) there live e
 
-lost-decodes : (x : Sight) (w : Wanted) (regs : Regs) (at : Reached) (word : ℕ) (there : Reached) → ((f : ℕ) → x.lost f ≡ false) → decodes x regs at word ≡ Err (Dead there w) → ⊥
+lost-decodes : (x : Sight) (w : Wanted) (regs : Regs) (at : Reached) (word : ℕ) (there : Reached) → x.lost there.frame ≡ false → decodes x regs at word ≡ Err (Dead there w) → ⊥
 lost-decodes x w regs at word there live e = by (is_privileged word) e
   where
     by : (b : Bool) → (if b then Err (Privileged word) else executes x word at (effect (decoded word) regs)) ≡ Err (Dead there w) → ⊥
     by true e = cc
     by false e = lost-executes x w word at (effect (decoded word) regs) there live e
 
-lost-fetches : (x : Sight) (w : Wanted) (pages : List Page) (regs : Regs) (r : Result Reached Lack) (there : Reached) → ((f : ℕ) → x.lost f ≡ false) → reached x (fetch_at regs.pc) ≡ r → fetches x pages regs r ≡ Err (Dead there w) → ⊥
+lost-fetches : (x : Sight) (w : Wanted) (pages : List Page) (regs : Regs) (r : Result Reached Lack) (there : Reached) → x.lost there.frame ≡ false → reached x (fetch_at regs.pc) ≡ r → fetches x pages regs r ≡ Err (Dead there w) → ⊥
 lost-fetches x w pages regs (Err lack) there live is e = lost-fetch x (fetch_at regs.pc) w lack there live is (trap-same (fetch_trap (fetch_at regs.pc) lack) (Dead there w) e)
 lost-fetches x w pages regs (Ok at) there live is e = lost-decodes x w regs at (word_through pages at regs.pc) there live e
 
-pub never-dead : (x : Sight) (pages : List Page) (regs : Regs) (there : Reached) (w : Wanted) → ((f : ℕ) → x.lost f ≡ false) → hardware_step x pages regs ≡ Err (Dead there w) → ⊥
+pub never-dead : (x : Sight) (pages : List Page) (regs : Regs) (there : Reached) (w : Wanted) → x.lost there.frame ≡ false → hardware_step x pages regs ≡ Err (Dead there w) → ⊥
 never-dead x pages regs there w live e = by x.line e
   where
     by : (b : Bool) → (if b then Err Line else fetches x pages regs (reached x (fetch_at regs.pc))) ≡ Err (Dead there w) → ⊥

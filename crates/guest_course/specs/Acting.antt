@@ -1,11 +1,11 @@
 -- What an act that was left does with a page, and the operations for which pages are taken shared.
-use Rattle.std.specs.Prelude.{◌≡◌, ◌<◌, ℕ, ◌==◌, if◌then◌else◌, List, Bool, length, Option, Some, None}
+use Rattle.std.specs.Prelude.{◌≡◌, ℕ, ◌==◌, if◌then◌else◌, List, Bool, length, Option, Some, None}
 use Rattle.base_words.specs.Membership.{HasNone}
-use Rattle.private_machine.specs.Backing.{Copy, Move, TakesShared}
+use Rattle.private_machine.specs.Backing.{Copy, TakesShared}
 use Rattle.private_machine.specs.DeviceAct.{Act, StoresTo, ReadsDisk, WritesDisk, SendsPage, WritesEntry, NoAct}
 use Rattle.private_machine.specs.DevicePage.{transfer_of}
 use Rattle.private_machine.specs.Devices.{disk_status, may_send}
-use Rattle.private_machine.specs.Operation.{Operation, Packet, ReadsBlock, Delivers}
+use Rattle.private_machine.specs.Operation.{Packet, ReadsBlock, Delivers}
 use Rattle.guest_devs.specs.declared.act.DevAct.{DevAct}
 use Rattle.guest_devs.specs.declared.act.DevAct.TheVariants as acts
 use Rattle.isolation_law.specs.Content.{content}

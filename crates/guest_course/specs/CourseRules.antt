@@ -1,6 +1,6 @@
 -- What holds of a guest's parts at every moment.
 use Rattle.std.specs.Prelude.{◌≡◌, ℕ, suc, ◌+◌, ◌*◌, ◌<◌, ◌≤◌, false, List, [], ◌∷◌, Option, Some, None, length}
-use Rattle.base_words.specs.Limits.{most_processors}
+use Rattle.base_words.specs.Limits.{most_cells, most_processors}
 use Rattle.base_words.specs.declared.trap.DataAccess.{DataAccess}
 use Rattle.base_words.specs.declared.trap.DataAccess.TheVariants as access
 use Rattle.private_machine.specs.Backing.{Page}
@@ -11,8 +11,10 @@ use Rattle.guest_devs.specs.Shown.{Agree}
 use Rattle.isolation_law.specs.Surroundings.{Surroundings, node_of_processor, cell_of_frame, home_cell}
 use Rattle.isolation_law.specs.GuestState.{processor}
 use Rattle.isolation_law.specs.Coherence.{Coherent}
+use Rattle.isolation_law.specs.LiveCells.{UsesLive}
 use Rattle.guest_course.specs.declared.place.Place.{Place}
 use Rattle.guest_course.specs.declared.course.Course.{Course}
+use Rattle.guest_course.specs.Failures.{dead_cells}
 use Rattle.guest_course.specs.CourseView.{surroundings, state_of}
 
 -- a page's bytes may change: its frame is the guest's own, and there is no other
@@ -41,11 +43,14 @@ pub record IsSized (c : Course) : Type 0 where
   pub due : length c.due.items ≡ length c.places.items
   pub few_pages : length c.pmap.pages ≤ 2048
   pub cells : length c.sent_from.items ≡ length c.devs.state.page.sent
+  pub dead : length (dead_cells c.dead) ≡ most_cells
 
--- a frame that a packet hands on to a guest is one of the machine's and lies on the guest's home cell; and the packet is a whole page
+-- a frame that a packet hands on to a guest is one of the machine's and lies on the packet's cell, which is the guest's home; and the packet
+-- is a whole page
 pub record IsHandedHome (around : Surroundings) (packet : Packet) (handed : Handed) : Type 0 where
   pub full : packet.length ≡ 4096
   pub within : handed.frame < length around.nodes * around.frames
+  pub lies : cell_of_frame around handed.frame ≡ packet.cell
   pub home : cell_of_frame around handed.frame ≡ home_cell around
 
 -- a packet for a guest has no more bytes than a page
@@ -57,10 +62,11 @@ abbrev pub FitsInHand : Surroundings → Option WirePacket → Type 0
 FitsInHand around None = Unit {0}
 FitsInHand around (Some packet) = FitsHand around (packet_of packet)
 
--- the virtual processors show what the devices keep; each that is loaded is there; and until the guest ends it is coherent, and each
--- page has its counters
+-- the virtual processors show what the devices keep; each that is loaded is there; and until the guest ends it is coherent, uses no
+-- cell that has failed, and each page has its counters
 pub record IsGoing (c : Course) : Type 0 where
   pub coherent : Coherent (state_of c)
+  pub live : UsesLive (state_of c)
   pub pages : c.devs.state.pages ≡ length c.pmap.pages
   pub counted : AreCounters (length c.pmap.pages) (length c.around.site.shape.cells) c.counters
 

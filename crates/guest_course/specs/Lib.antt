@@ -1,3 +1,4 @@
+pub mod Failures
 pub mod HardwareView
 pub mod SkipView
 pub mod CourseView
@@ -22,5 +23,6 @@ pub mod Packets
 pub mod TakingCalls
 pub mod Posting
 pub mod EndCalls
+pub mod FailCalls
 pub mod Errands
 pub mod Executed

@@ -1,11 +1,12 @@
 -- What becomes of an access for which a processor trapped.
-use Rattle.std.specs.Prelude.{◌≡◌, ◌≢◌, ℕ, ◌/◌, ◌<◌, ◌≤◌, length, List, Some, None, Ok, Err, not, ◌&&◌}
+use Rattle.std.specs.Prelude.{◌≡◌, ◌≢◌, ℕ, ◌/◌, ◌<◌, ◌≤◌, false, length, List, Some, None, Ok, Err, not, ◌&&◌}
 use Rattle.base_words.specs.Limits.{most_processors}
 use Rattle.base_words.specs.declared.moves.MoveKind.{MoveKind}
 use Rattle.base_words.specs.declared.place.Place.TheVariants.{Memory}
 use Rattle.base_words.specs.declared.trap.TrapCause.{TrapCause}
 use Rattle.base_words.specs.Halves.{Half, Fills}
-use Rattle.private_machine.specs.Backing.{nearest}
+use Rattle.base_words.specs.Membership.{Has}
+use Rattle.private_machine.specs.Backing.{Copy, copies, nearest, page_at}
 use Rattle.private_machine.specs.OwnStep.{led}
 use Rattle.private_machine.specs.PageMove.{named_by}
 use Rattle.private_machine.specs.Reaching.{Wanted}
@@ -24,6 +25,7 @@ use Rattle.guest_course.specs.StepCalls.{IsDenied}
 use Rattle.guest_course.specs.declared.course.Course.{Course}
 use Rattle.guest_course.specs.CourseView.{surroundings}
 use Rattle.guest_course.specs.CourseRules.{AllStand}
+use Rattle.guest_course.specs.Failures.{lost_in}
 use Rattle.guest_course.specs.declared.granting.Granted.{Granted}
 use Rattle.guest_course.specs.declared.refilling.Refill.{Refill}
 use Rattle.guest_course.specs.declared.refilling.Refill.TheVariants.{Filled, Waits, Needs, Denied}
@@ -95,7 +97,7 @@ pub record IsFilled (s : GuestState) (p v address : ℕ) (g : Granted) (t : Gues
   pub fills : Fills (half_of s p v address g) (processor s p).tlb tlb
   pub after : t ≡ with_second_level (with_tlb (with_page s g.page.0 (named_by p (page s g.page.0))) p tlb) v (put (second_of s v address g) (second_level s v))
 
--- the processor, the virtual processor with its second-level entries, and the page are there
+-- the processor, the virtual processor with its second-level entries, and the page are there, and no frame of the page is lost
 pub record MayFill (c : Course) (p v q : ℕ) : Type 0 where
   pub is_processor : p < length c.places.items
   pub few_processors : length c.places.items ≤ most_processors
@@ -103,3 +105,4 @@ pub record MayFill (c : Course) (p v q : ℕ) : Type 0 where
   pub seconds : length c.seconds.items ≡ length c.vcpus.items
   pub is_page : q < length c.pmap.pages
   pub stands : AllStand (surroundings c.around) 0 c.places.items
+  pub live : (x : Copy) → Has (copies (page_at c.pmap.pages q)) x → lost_in c.around.site.shape c.dead x.frame ≡ false

@@ -12,7 +12,7 @@ use Rattle.guest_devs.specs.declared.act.DevAct.{DevAct}
 use Rattle.isolation_law.specs.Content.{content}
 use Rattle.isolation_law.specs.GuestState.{GuestState, vcpu_of, hand_place}
 use Rattle.isolation_law.specs.Needs.{may_share_block}
-use Rattle.wire_queue.specs.Packets.{Handed, packet_of, page_of}
+use Rattle.wire_queue.specs.Packets.{Handed, packet_of}
 use Rattle.wire_queue.specs.declared.packet.WirePacket.{WirePacket}
 use Rattle.guest_course.specs.Acting.{act_of}
 use Rattle.guest_course.specs.declared.course.Course.{Course}

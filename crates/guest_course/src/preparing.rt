@@ -17,9 +17,10 @@ ghost use Rattle.guest_course.specs.StepCalls.{MayStep};
 ghost use Rattle.guest_course.specs.Tasks.{read_page};
 
 use crate::course::Course;
+use crate::laws::live_frames_are_reached;
 use base_words::{MoveKind, Ppn, ProcId, VcpuId};
 use guest_devs::DevAct;
-use isolation_law::{read_only_stores, row_keeps};
+use isolation_law::{goes_on_alive, read_only_stores, row_keeps};
 use pmap_table::Change;
 
 impl Course {
@@ -41,6 +42,7 @@ impl Course {
         ensures packets { SamePackets self.old self.new }
     {
         row_keeps();
+        goes_on_alive();
         if self.pmap.is_shared(page) {
             let spare = self.pmap.take_spare();
             self.open(page, Change::Break(spare), None);
@@ -67,6 +69,7 @@ impl Course {
         ensures packets { SamePackets self.old self.new }
     {
         read_only_stores();
+        live_frames_are_reached();
         self.begin_asked(page, kind);
     }
 

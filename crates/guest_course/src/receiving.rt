@@ -19,7 +19,7 @@ ghost use Rattle.guest_course.specs.CourseRules.{FitsHand, IsSound, IsWritable};
 ghost use Rattle.guest_course.specs.EmulateCalls.{StaysLoaded};
 ghost use Rattle.guest_course.specs.Hurdles.{NeedsMove};
 ghost use Rattle.guest_course.specs.Packets.{SamePackets};
-ghost use Rattle.guest_course.specs.ReceivingCalls.{MayDeliver, UsesPlace};
+ghost use Rattle.guest_course.specs.ReceivingCalls.{HandLives, MayDeliver, UsesPlace};
 
 use crate::course::Course;
 use crate::got::GotPacket;
@@ -111,6 +111,7 @@ impl Course {
         requires goes_on { GoesOn (state_of self.old) }
         requires in_hand { self.old.hand ≢ None }
         requires armed { (state_of self.old).devices.armed ≡ Some page.0 }
+        requires lives { HandLives (state_of self.old) }
         requires needs { NeedsMove (state_of self.old) page.0 kind }
         requires room { 0 < self.old.pmap.room }
         ensures sound { IsSound self.new }
@@ -131,6 +132,7 @@ impl Course {
         requires sound { IsSound self.old }
         requires goes_on { GoesOn (state_of self.old) }
         requires in_hand { self.old.hand ≢ None }
+        requires lives { HandLives (state_of self.old) }
         requires armed { (state_of self.old).devices.armed ≢ None }
         requires writable { (q : ℕ) → (state_of self.old).devices.armed ≡ Some q → IsWritable (page_at self.old.pmap.pages q) }
         requires place { vec_len self.old.received < vec_capacity self.old.received }
@@ -146,6 +148,7 @@ impl Course {
         ensures cells { self.new.sent_from ≡ self.old.sent_from }
         ensures skips { self.new.skips ≡ self.old.skips }
         ensures place_room { UsesPlace self.old.received self.new.received }
+        ensures discarded { self.new.discarded ≡ self.old.discarded }
     {
         row_keeps();
         let Some(page) = self.devs.armed() else {

@@ -17,8 +17,9 @@ ghost use Rattle.guest_course.specs.Packets.{SamePackets};
 
 use crate::course::Course;
 use crate::granting::{Granted, accessed, by_second, is_miss, walk};
+use crate::laws::live_frames_are_reached;
 use base_words::{MoveKind, Ppn, ProcId, TrapCause, VcpuId};
-use isolation_law::{read_only_needs, row_keeps, second_level_serves, traps_tell};
+use isolation_law::{goes_on_alive, read_only_needs, row_keeps, second_level_serves, traps_tell};
 use l2_tlb::L2Entry;
 use pmap_table::Pmap;
 use trap_emulate::Access;
@@ -125,6 +126,8 @@ impl Course {
         row_keeps();
         traps_tell();
         read_only_needs();
+        goes_on_alive();
+        live_frames_are_reached();
         let Some(access) = self.accessed(vcpu, cause) else {
             return Refill::Denied;
         };

@@ -11,7 +11,7 @@ ghost use Rattle.private_machine.specs.PageMove.{dropped_taken};
 ghost use Rattle.pmap_table.specs.Ending.{numbers_of};
 ghost use Rattle.pmap_table.specs.Frames.{shared_copy_of};
 ghost use Rattle.isolation_law.specs.GuestState.{block as block_of, hand_place as hand_place_of, operation_of};
-ghost use Rattle.isolation_law.specs.MoveRows.{Begins, with_begun};
+ghost use Rattle.isolation_law.specs.MoveRows.{Begins, LiesAlive, with_begun};
 ghost use Rattle.isolation_law.specs.Needs.{may_share_block};
 ghost use Rattle.isolation_law.specs.PacketRows.{EndsDelivery};
 ghost use Rattle.isolation_law.specs.Phases.{GoesOn};
@@ -24,7 +24,7 @@ ghost use Rattle.guest_course.specs.EmulateCalls.{LeavesAct, StaysLoaded};
 ghost use Rattle.guest_course.specs.LeavingCalls.{UsesCell};
 ghost use Rattle.guest_course.specs.Packets.{SamePackets};
 ghost use Rattle.guest_course.specs.Rebacking.{Rebacked};
-ghost use Rattle.guest_course.specs.ReceivingCalls.{UsesPlace};
+ghost use Rattle.guest_course.specs.ReceivingCalls.{HandLives, UsesPlace};
 ghost use Rattle.guest_course.specs.TakingCalls.{handed_in, place_of, HandsOn, HasCode, SharesBlock, SharesNoBlock};
 
 use crate::course::Course;
@@ -148,6 +148,7 @@ impl Course {
     /// hasn't written the block, its home cell lives, and the page hasn't the read's own instruction, which could never be made as long as
     /// its page has a move.
     pub fn to_share(&self, vcpu: VcpuId, act: DevAct) -> Option<(u32, Ppn)>
+        requires sound { IsSound self.now }
         requires vcpu { vcpu.0 < length self.now.devs.state.page.transfers }
         requires there { vcpu.0 < length self.now.vcpus.items }
         ensures some { IfSome result (λ x. SharesBlock (state_of self.now) vcpu.0 act x.0 x.1.0) }
@@ -161,7 +162,7 @@ impl Course {
             return None;
         }
         let page = Ppn(transfer.page);
-        if self.has_code(vcpu, page) {
+        if self.has_code(vcpu, page) || self.is_dead(self.cell_of_node(self.around.home)) {
             return None;
         }
         Some((transfer.block, page))
@@ -183,6 +184,7 @@ impl Course {
         requires reads { act_of (state_of self.old) vcpu.0 act ≡ ReadsDisk block page.0 }
         requires page { page.0 < length self.old.pmap.pages }
         requires unwritten { may_share_block (state_of self.old) block ≡ true }
+        requires lives { LiesAlive (state_of self.old) (Some (shared_copy_of target)) }
         requires bytes { (shared_copy_of target).bytes ≡ (block_of (state_of self.old) block).given }
         requires rests { (page_at self.old.pmap.pages page.0).move ≡ None }
         requires room { 0 < self.old.pmap.room }
@@ -229,6 +231,8 @@ impl Course {
         requires sound { IsSound self.old }
         requires goes_on { GoesOn (state_of self.old) }
         requires armed { (state_of self.old).devices.armed ≡ Some page.0 }
+        requires lives { HandLives (state_of self.old) }
+        requires target { LiesAlive (state_of self.old) (Some (shared_copy_of target)) }
         requires hands { HandsOn self.old target delivery }
         requires rests { (page_at self.old.pmap.pages page.0).move ≡ None }
         requires room { 0 < self.old.pmap.room }
@@ -303,6 +307,7 @@ impl Course {
         requires sound { IsSound self.old }
         requires goes_on { GoesOn (state_of self.old) }
         requires in_hand { self.old.hand ≢ None }
+        requires lives { HandLives (state_of self.old) }
         requires armed { (state_of self.old).devices.armed ≢ None }
         requires own { (q : ℕ) → (state_of self.old).devices.armed ≡ Some q → IsOwnDelivery (state_of self.old) q }
         requires place { vec_len self.old.received < vec_capacity self.old.received }
@@ -319,6 +324,7 @@ impl Course {
         ensures cells { self.new.sent_from ≡ self.old.sent_from }
         ensures skips { self.new.skips ≡ self.old.skips }
         ensures place_room { UsesPlace self.old.received self.new.received }
+        ensures discarded { self.new.discarded ≡ self.old.discarded }
     {
         row_keeps();
         let Some(page) = self.devs.armed() else {

@@ -3,3 +3,4 @@ pub mod BurstLemmas
 pub mod GuestLemmas
 pub mod Crossing
 pub mod ReceivingLemmas
+pub mod FailLemmas

@@ -1,5 +1,5 @@
 -- What a token is told by each call.
-use Rattle.std.specs.Prelude.{◌≡◌, ◌⊎◌, ℕ, zero, suc, List, [], ◌∷◌, ◌++◌, map, Option, unwrap_or, Result, Ok, Err}
+use Rattle.std.specs.Prelude.{◌≡◌, ◌⊎◌, ℕ, zero, suc, List, [], ◌∷◌, ◌++◌, map, Option, unwrap_or, Result, Ok, Err, Some, slice_get}
 use Rattle.std.specs.declared.alloc.AllocError.{AllocError}
 use Rattle.base_words.specs.declared.ids.ProcId.{ProcId}
 use Rattle.base_words.specs.declared.ids.VcpuId.{VcpuId}
@@ -13,10 +13,12 @@ use Rattle.guest_core.specs.GuestCalls.{processor_of, told_of_load}
 use Rattle.guest_core.specs.declared.answers.Asked.{Asked}
 use Rattle.guest_core.specs.declared.answers.Asked.TheVariants.{Busy}
 use Rattle.guest_core.specs.declared.answers.Loaded.{Loaded}
-use Rattle.guest_core.specs.declared.answers.Loaded.TheVariants.{On}
+use Rattle.guest_core.specs.declared.answers.Loaded.TheVariants.{On, Dead}
 use Rattle.guest_lock.specs.declared.burst.Burst.{Burst}
 use Rattle.guest_lock.specs.declared.burst.Stop.{Stop}
 use Rattle.guest_lock.specs.declared.burst.Stop.TheVariants as stop
+use Rattle.isolation_law.specs.Start.{Boot}
+use Rattle.isolation_law.specs.Surroundings.{cell_of_processor}
 
 -- a token whose notes grew by these, with this guest
 abbrev pub with_told : Token → ℕ → List Note → Token
@@ -43,6 +45,11 @@ told_of_loading p v (Err e) = []
 abbrev pub HasWaited : Result Loaded AllocError → Type 0
 HasWaited (Ok (On q)) = ⊥
 HasWaited result = Unit {0}
+
+-- a cell that has failed, where it is named, is that of the processor
+abbrev pub NamesCell : List Boot → ℕ → ℕ → Result Loaded AllocError → Type 0
+NamesCell starts g p (Ok (Dead cell)) = (b : Boot) → slice_get starts g ≡ Some b → cell.0 ≡ cell_of_processor b.around p
+NamesCell starts g p result = Unit {0}
 
 -- ---- asks
 

@@ -1,5 +1,5 @@
 //! A guest under its lock.
-ghost use Rattle.std.specs.Prelude.{◌≡◌, ◌≢◌, ◌⊎◌, ◌<◌, ◌≤◌, ◌∷◌, [], None};
+ghost use Rattle.std.specs.Prelude.{◌≡◌, ◌≢◌, ◌⊎◌, ◌<◌, ◌≤◌, ◌∷◌, [], None, List};
 ghost use Rattle.base_words.specs.declared.events.Event.TheVariants.{Unload};
 ghost use Rattle.shootdown.specs.declared.notes.Note.TheVariants.{Made};
 ghost use Rattle.guest_core.specs.GuestCalls.{processor_of, told_of_turn};
@@ -7,13 +7,16 @@ ghost use Rattle.guest_core.specs.GuestView.{shared_by};
 ghost use Rattle.guest_lock.specs.declared.burst.Stop.TheVariants.{Paused};
 ghost use Rattle.guest_core.specs.MoveCalls.{told_of_ask};
 ghost use Rattle.guest_lock.specs.Fits.{Fits, HasVcpu, MayAskOf};
-ghost use Rattle.guest_lock.specs.Told.{with_told, shown, vcpu_shown, told_of_loading, HasWaited, HasAsked, Bursts};
+ghost use Rattle.guest_lock.specs.Told.{with_told, shown, vcpu_shown, told_of_loading, HasWaited, HasAsked, Bursts, NamesCell};
 ghost use Rattle.guest_lock.specs.Guests.{IsGuestOf};
+ghost use Rattle.base_words.specs.Limits.{most_cells};
+ghost use Rattle.shootdown.specs.declared.notes.Note.{Note};
+ghost use Rattle.guest_lock.specs.Fates.{IsToldFailing};
 
 use crate::kept::Kept;
 use crate::{BURST_TURNS, Burst, Starts};
-use base_words::{MoveKind, NodeId, Ppn, VcpuId};
-use guest_core::{Asked, Guest, Loaded, Ready, Resources, Turn};
+use base_words::{CellId, MoveKind, NodeId, Ppn, VcpuId};
+use guest_core::{Asked, Fate, Guest, Loaded, Ready, Resources, Turn};
 use outside_io::{Gate, GatePoint};
 use shootdown::ProcToken;
 use std::alloc::{AllocError, Global};
@@ -55,12 +58,14 @@ impl<N: Starts, const G: u8> GuestCell<N, G> {
         requires free { shown G token.old ≡ None }
         ensures told { token.new ≡ with_told token.old G (told_of_loading (processor_of token.old) vcpu result) }
         ensures waited { HasWaited result }
+        ensures cell { NamesCell N.starts G token.old.number result }
     {
         let mut kept = self.guest.lock(rt);
         for _ in rt.forever() {
             match kept.load(token, vcpu) {
                 Ok(Loaded::On(_)) => kept = self.moved.wait(rt, kept),
                 Ok(Loaded::Done) => return Ok(Loaded::Done),
+                Ok(Loaded::Dead(cell)) => return Ok(Loaded::Dead(cell)),
                 Ok(Loaded::Ended(end)) => return Ok(Loaded::Ended(end)),
                 Err(error) => return Err(error),
             }
@@ -227,6 +232,25 @@ impl<N: Starts, const G: u8> GuestCell<N, G> {
             self.finish(rt, page, resources);
         }
         Ok(asked)
+    }
+
+    /// A cell fails for this guest, in one hold of the lock. After want of memory it has not.
+    pub fn fail<R: Wait>(
+        &self,
+        rt: &R,
+        token: &mut ProcToken,
+        cell: CellId,
+        resources: &Resources,
+    ) -> Result<Fate, AllocError>
+        requires token { Fits N.starts N.board token.old }
+        requires cell { cell.0 < most_cells }
+        requires shared { shared_by resources.now ≡ N.shared }
+        ensures { (told : List Note) × IsToldFailing cell result told × (token.new ≡ with_told token.old G told) }
+    {
+        let mut kept = self.guest.lock(rt);
+        let fate = kept.fail(token, cell, resources);
+        self.moved.notify_all();
+        fate
     }
 
     /// The guest, out of its lock.

@@ -1,11 +1,18 @@
 //! The guests of a run, each under its lock.
-ghost use Rattle.std.specs.Prelude.{◌+◌, ◌≤◌, OnOk, IfOk, length};
+ghost use Rattle.std.specs.Prelude.{◌+◌, ◌≤◌, OnOk, IfOk, length, ◌≡◌, ◌<◌};
 ghost use Rattle.std.specs.Vec.Iter.{into_iter_items};
 ghost use Rattle.guest_lock.specs.Guests.{IsThere, GuestsFrom, GuestsBelow};
+ghost use Rattle.base_words.specs.Limits.{most_cells};
+ghost use Rattle.guest_core.specs.GuestView.{shared_by};
+ghost use Rattle.guest_lock.specs.Fits.{Fits};
+ghost use Rattle.guest_lock.specs.Fates.{FailsFirst, FailsNext};
 
 use crate::{GuestCell, Starts};
-use guest_core::Guest;
+use base_words::{CellId, GuestId, GuestList};
+use guest_core::{Fate, Guest, Resources};
+use shootdown::ProcToken;
 use std::alloc::{AllocError, Global};
+use std::sync::Wait;
 use std::vec::IntoIter;
 
 /// The guests of a run, each under its lock: a cell for each number, with the guest of that number where there is one.
@@ -54,6 +61,59 @@ fn take_cell<N: Starts, const G: u8>(
         guests.push(cell.take_out())?;
     }
     Ok(())
+}
+
+/// A cell fails for the guest of this number, if there is one.
+fn fail_one<N: Starts, const G: u8, R: Wait>(
+    rt: &R,
+    there: &Option<GuestCell<N, G>>,
+    token: &mut ProcToken,
+    cell: CellId,
+    resources: &Resources,
+    ended: &mut GuestList,
+) -> Result<(), AllocError>
+    requires there { IsThere there.now G N.starts }
+    requires token { Fits N.starts N.board token.old }
+    requires cell { cell.0 < most_cells }
+    requires shared { shared_by resources.now ≡ N.shared }
+    ensures fails { OnOk result (FailsNext cell (length N.starts) G token.old ended.old token.new ended.new) }
+    ensures same { (token.new.board ≡ token.old.board) × (token.new.number ≡ token.old.number) }
+{
+    if let Some(guest) = there {
+        if guest.fail(rt, token, cell, resources)? == Fate::Ends {
+            ended.push(GuestId(G))?;
+        }
+    }
+    Ok(())
+}
+
+/// A cell fails for each guest of the run, in order, under its lock: the guests that it ends. After want of memory the guests before one
+/// guest have had the event and the others have not.
+pub fn fail_all<N: Starts, R: Wait>(
+    rt: &R,
+    alloc: Global,
+    token: &mut ProcToken,
+    guests: &GuestCells<N>,
+    cell: CellId,
+    resources: &Resources,
+) -> Result<GuestList, AllocError>
+    requires few { length N.starts ≤ 8 }
+    requires token { Fits N.starts N.board token.old }
+    requires cell { cell.0 < most_cells }
+    requires shared { shared_by resources.now ≡ N.shared }
+    ensures fails { IfOk result (λ ended. FailsFirst cell (length N.starts) token.old token.new ended) }
+    ensures same { (token.new.board ≡ token.old.board) × (token.new.number ≡ token.old.number) }
+{
+    let mut ended = GuestList::new(alloc);
+    fail_one(rt, &guests.zero, token, cell, resources, &mut ended)?;
+    fail_one(rt, &guests.one, token, cell, resources, &mut ended)?;
+    fail_one(rt, &guests.two, token, cell, resources, &mut ended)?;
+    fail_one(rt, &guests.three, token, cell, resources, &mut ended)?;
+    fail_one(rt, &guests.four, token, cell, resources, &mut ended)?;
+    fail_one(rt, &guests.five, token, cell, resources, &mut ended)?;
+    fail_one(rt, &guests.six, token, cell, resources, &mut ended)?;
+    fail_one(rt, &guests.seven, token, cell, resources, &mut ended)?;
+    Ok(ended)
 }
 
 impl<N: Starts> GuestCells<N> {

@@ -1,5 +1,5 @@
 //! What lies under a guest's lock.
-ghost use Rattle.std.specs.Prelude.{◌≡◌, ◌≢◌, ◌⊎◌, ◌<◌, ◌≤◌, ◌∷◌, [], None, Some, OnOk, length, slice_get};
+ghost use Rattle.std.specs.Prelude.{◌≡◌, ◌≢◌, ◌⊎◌, ◌<◌, ◌≤◌, ◌∷◌, [], None, Some, OnOk, length, slice_get, List};
 ghost use Rattle.std.specs.Bool.{OnTrue};
 ghost use Rattle.base_words.specs.declared.events.End.TheVariants.{Budget};
 ghost use Rattle.base_words.specs.declared.events.Event.TheVariants.{Unload};
@@ -14,12 +14,15 @@ ghost use Rattle.guest_course.specs.SkipView.{wanting};
 ghost use Rattle.guest_core.specs.MoveCalls.{told_of_ask, MayAsk, StillActs};
 ghost use Rattle.guest_lock.specs.Fits.{Fits, HasVcpu, MayAskOf};
 ghost use Rattle.guest_lock.specs.Receiving.{HasCalled, HasCalledOften};
-ghost use Rattle.guest_lock.specs.Told.{with_told, shown, vcpu_shown, told_of_loading, AreInStep, Bursts};
+ghost use Rattle.guest_lock.specs.Told.{with_told, shown, vcpu_shown, told_of_loading, AreInStep, Bursts, NamesCell};
+ghost use Rattle.base_words.specs.Limits.{most_cells};
+ghost use Rattle.shootdown.specs.declared.notes.Note.{Note};
+ghost use Rattle.guest_lock.specs.Fates.{IsToldFailing};
 
 use crate::Starts;
 use crate::burst::{BURST_TURNS, Burst, Stop};
-use base_words::{MoveKind, NodeId, Ppn, ProcId, VcpuId};
-use guest_core::{Asked, Guest, Loaded, Packeted, Resources, Turn};
+use base_words::{CellId, MoveKind, NodeId, Ppn, ProcId, VcpuId};
+use guest_core::{Asked, Fate, Guest, Loaded, Packeted, Resources, Turn};
 use guest_course::Wish;
 use outside_io::{Gate, GatePoint};
 use shootdown::ProcToken;
@@ -63,7 +66,8 @@ impl<N: Starts, const G: u8> Kept<N, G> {
         requires token { Fits N.starts N.board token.old }
         requires vcpu { HasVcpu N.starts G vcpu.0 }
         requires free { shown G token.old ≡ None }
-        ensures { token.new ≡ with_told token.old G (told_of_loading (processor_of token.old) vcpu result) }
+        ensures told { token.new ≡ with_told token.old G (told_of_loading (processor_of token.old) vcpu result) }
+        ensures cell { NamesCell N.starts G token.old.number result }
     {
         self.guest.make_room()?;
         self.guest.agree(token);
@@ -120,6 +124,7 @@ impl<N: Starts, const G: u8> Kept<N, G> {
             match self.receive_once(rt, alloc, resources)? {
                 Packeted::Begun(_) | Packeted::Finished(_) => self.moved = true,
                 Packeted::Delivered
+                | Packeted::Discarded(_)
                 | Packeted::Waits(..)
                 | Packeted::NoneInHand
                 | Packeted::NotArmed => break,
@@ -213,6 +218,23 @@ impl<N: Starts, const G: u8> Kept<N, G> {
         self.guest.agree(token);
         self.guest
             .ask_move(alloc, token, page, kind, node, resources)
+    }
+
+    /// Makes room, and a cell fails for the guest.
+    pub(crate) fn fail(
+        &mut self,
+        token: &mut ProcToken,
+        cell: CellId,
+        resources: &Resources,
+    ) -> Result<Fate, AllocError>
+        requires token { Fits N.starts N.board token.old }
+        requires cell { cell.0 < most_cells }
+        requires shared { shared_by resources.now ≡ N.shared }
+        ensures { (told : List Note) × IsToldFailing cell result told × (token.new ≡ with_told token.old G told) }
+    {
+        self.guest.make_room()?;
+        self.guest.agree(token);
+        Ok(self.guest.cell_fails(token, cell, resources))
     }
 
     /// Whether something has changed since the last call of this, for which a processor may wait.

@@ -11,7 +11,6 @@ ghost use Rattle.machine_desc.specs.declared.machine.GuestSpec.{GuestSpec};
 ghost use Rattle.machine_desc.specs.declared.machine.Machine.{Machine};
 ghost use Rattle.machine_desc.specs.Described.{described_seen};
 ghost use Rattle.machine_desc.specs.Accepted.{IsDescribed};
-ghost use Rattle.unbuilt_keys.specs.Unbuilt.{unbuilt as first_unbuilt};
 ghost use Rattle.run_workers.specs.Starting.{IsSource, AreSources, AreServed};
 ghost use Rattle.guest_tests.specs.Ready.{HasSize, IsReady, AreReady};
 
@@ -30,7 +29,6 @@ use run_workers::{Booted, Source, SourceList, boot};
 use shootdown::ProcToken;
 use std::alloc::{AllocError, Global};
 use std::sync::Arc;
-use unbuilt_keys::unbuilt;
 use wire_queue::Wires;
 
 /// Two guests of three pages and one virtual processor each on one node, and a processor for each.
@@ -194,12 +192,6 @@ fn sources(
     Ok(SourceList::from_vec(both))
 }
 
-fn is_built(plan: &Plan) -> bool
-    ensures { (machine : Machine) → OnTrue result (first_unbuilt (described_seen machine plan.now) ≡ None) }
-{
-    unbuilt(plan).is_none()
-}
-
 fn is_served(alloc: Global, machine: &Machine, plan: &Plan) -> Result<bool, AllocError>
     requires { IsDescribed machine.now plan.now }
     ensures { IfOk result (λ served. OnTrue served (AreServed (layout_of machine.now.shape) machine.now.lends machine.now.cache machine.now.guests)) }
@@ -234,12 +226,11 @@ pub(crate) fn described(
     second: &[u32],
 ) -> Result<(Machine, Plan, SourceList), AllocError>
     ensures described { IfOk result (λ all. IsDescribed all.0 all.1) }
-    ensures built { IfOk result (λ all. first_unbuilt (described_seen all.0 all.1) ≡ None) }
     ensures served { IfOk result (λ all. AreServed (layout_of all.0.shape) all.0.lends all.0.cache all.0.guests) }
     ensures sources { IfOk result (λ all. AreSources all.0.guests all.2) }
 {
     let (machine, plan) = description(alloc, text)?;
-    if !is_built(&plan) || !is_served(alloc, &machine, &plan)? {
+    if !is_served(alloc, &machine, &plan)? {
         return Err(AllocError);
     }
     let sources = sources(alloc, machine.guests.as_slice(), first, second)?;

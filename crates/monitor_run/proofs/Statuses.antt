@@ -6,7 +6,7 @@ use Rattle.outside_io.specs.Writing.{SinkView}
 use Rattle.guest_core.specs.declared.records.RunRecord.{RunRecord}
 use Rattle.guest_asm.specs.declared.fault.AsmCause.{AsmCause}
 use Rattle.admission.specs.declared.faults.Fault.{Fault}
-use Rattle.admission.specs.declared.faults.Fault.TheVariants.{Words, Read, Long, Asm, Description, BadImage, Unbuilt, CacheAdmission, Admission}
+use Rattle.admission.specs.declared.faults.Fault.TheVariants.{Words, Read, Long, Asm, Description, BadImage, CacheAdmission, Admission}
 use Rattle.admission.specs.Chain.{Files}
 use Rattle.admission.specs.Texts.{RefusesLine}
 use Rattle.admission.specs.Jobs.{Job, Monitored, Alone, Print, Litmus, Listing, job_of}
@@ -75,7 +75,6 @@ due_two (Err (Long name)) is = absurd (omega (arith, is))
 due_two (Err (Asm line cause)) is = absurd (omega (arith, is))
 due_two (Err (Description fault)) is = absurd (omega (arith, is))
 due_two (Err (BadImage guest fault)) is = absurd (omega (arith, is))
-due_two (Err (Unbuilt key)) is = absurd (omega (arith, is))
 due_two (Err (CacheAdmission cell needs has)) is = absurd (omega (arith, is))
 due_two (Err (Admission guest needs has)) is = absurd (omega (arith, is))
 
@@ -91,7 +90,6 @@ due_three (Err (Long name)) is = absurd (omega (arith, is))
 due_three (Err (Asm line cause)) is = absurd (omega (arith, is))
 due_three (Err (Description fault)) is = absurd (omega (arith, is))
 due_three (Err (BadImage guest fault)) is = absurd (omega (arith, is))
-due_three (Err (Unbuilt key)) is = absurd (omega (arith, is))
 due_three (Err (CacheAdmission cell needs has)) is = absurd (omega (arith, is))
 due_three (Err (Admission guest needs has)) is = absurd (omega (arith, is))
 
@@ -107,7 +105,6 @@ not_four (Err (Long name)) is = omega (arith, is)
 not_four (Err (Asm line cause)) is = omega (arith, is)
 not_four (Err (Description fault)) is = omega (arith, is)
 not_four (Err (BadImage guest fault)) is = omega (arith, is)
-not_four (Err (Unbuilt key)) is = omega (arith, is)
 not_four (Err (CacheAdmission cell needs has)) is = omega (arith, is)
 not_four (Err (Admission guest needs has)) is = omega (arith, is)
 
@@ -123,7 +120,6 @@ due_nine (Err (Long name)) is = absurd (omega (arith, is))
 due_nine (Err (Asm line cause)) is = (line, cause, refl)
 due_nine (Err (Description fault)) is = absurd (omega (arith, is))
 due_nine (Err (BadImage guest fault)) is = absurd (omega (arith, is))
-due_nine (Err (Unbuilt key)) is = absurd (omega (arith, is))
 due_nine (Err (CacheAdmission cell needs has)) is = absurd (omega (arith, is))
 due_nine (Err (Admission guest needs has)) is = absurd (omega (arith, is))
 
@@ -139,7 +135,6 @@ due_ten (Err (Long name)) is = absurd (omega (arith, is))
 due_ten (Err (Asm line cause)) is = absurd (omega (arith, is))
 due_ten (Err (Description fault)) is = absurd (omega (arith, is))
 due_ten (Err (BadImage guest fault)) is = absurd (omega (arith, is))
-due_ten (Err (Unbuilt key)) is = absurd (omega (arith, is))
 due_ten (Err (CacheAdmission cell needs has)) is = absurd (omega (arith, is))
 due_ten (Err (Admission guest needs has)) is = absurd (omega (arith, is))
 
@@ -155,7 +150,6 @@ stops (Err (Long name)) = inl tt
 stops (Err (Asm line cause)) = inl tt
 stops (Err (Description fault)) = inl tt
 stops (Err (BadImage guest fault)) = inl tt
-stops (Err (Unbuilt key)) = inl tt
 stops (Err (CacheAdmission cell needs has)) = inl tt
 stops (Err (Admission guest needs has)) = inl tt
 

@@ -6,7 +6,7 @@ use Rattle.guest_core.specs.declared.records.RunRecord.{RunRecord}
 use Rattle.guest_asm.specs.Assembly.{Assembly, RefusedLine, assembly_of}
 use Rattle.guest_asm.specs.Loading.{IsLoaded, AllAreLoaded}
 use Rattle.admission.specs.declared.faults.Fault.{Fault}
-use Rattle.admission.specs.declared.faults.Fault.TheVariants.{Words, Read, Long, Asm, Description, BadImage, Unbuilt, CacheAdmission, Admission}
+use Rattle.admission.specs.declared.faults.Fault.TheVariants.{Words, Read, Long, Asm, Description, BadImage, CacheAdmission, Admission}
 use Rattle.admission.specs.Chain.{◌>>=◌, known_form, fitting, of_text, longest_text}
 use Rattle.admission.specs.Jobs.{Job, asm_image, asm_from, asm_run, asm_run_checked, single_described, job_by}
 use Rattle.admission.specs.Words.{Form, AsmSteps, form_of}
@@ -25,7 +25,6 @@ refusal-some (Long name) is = omega (arith, is)
 refusal-some (Asm line cause) is = omega (arith, is)
 refusal-some (Description fault) is = omega (arith, is)
 refusal-some (BadImage guest fault) is = omega (arith, is)
-refusal-some (Unbuilt key) is = omega (arith, is)
 refusal-some (CacheAdmission cell needs has) is = omega (arith, is)
 refusal-some (Admission guest needs has) is = omega (arith, is)
 

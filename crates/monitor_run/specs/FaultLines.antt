@@ -10,9 +10,7 @@ use Rattle.machine_desc.specs.declared.fault.Amount.TheVariants.{Number, Length}
 use Rattle.machine_desc.specs.declared.fault.DescFault.{DescFault}
 use Rattle.machine_desc.specs.declared.fault.DescFault.TheVariants as description
 use Rattle.admission.specs.declared.faults.Fault.{Fault}
-use Rattle.admission.specs.declared.faults.Fault.TheVariants.{Words, Read, Long, Asm, Description, BadImage, Unbuilt, CacheAdmission, Admission}
-use Rattle.unbuilt_keys.specs.declared.key.UnbuiltKey.{UnbuiltKey}
-use Rattle.unbuilt_keys.specs.declared.key.UnbuiltKey.TheVariants as key
+use Rattle.admission.specs.declared.faults.Fault.TheVariants.{Words, Read, Long, Asm, Description, BadImage, CacheAdmission, Admission}
 use Rattle.run_report.specs.Report.{line_end}
 
 -- an integer, or the length of a text, a list or an array
@@ -57,10 +55,6 @@ cause_text cause.Label = codes "label"
 cause_text cause.Range = codes "range"
 cause_text cause.Place = codes "place"
 
--- the path of a key that isn't built
-abbrev pub key_text : UnbuiltKey → List ℕ
-key_text (key.Act item) = codes "work[" ++ (decimal item ++ codes "].act")
-
 abbrev pub fault_line : Fault → List ℕ
 fault_line Words = codes "fault words" ++ line_end
 fault_line (Read name) = codes "fault read " ++ (name ++ line_end)
@@ -68,7 +62,6 @@ fault_line (Long name) = codes "fault long " ++ (name ++ line_end)
 fault_line (Asm line cause) = codes "fault asm " ++ (decimal line ++ (codes " " ++ (cause_text cause ++ line_end)))
 fault_line (Description fault) = codes "fault description " ++ (description_text fault ++ line_end)
 fault_line (BadImage guest fault) = codes "fault image " ++ (decimal guest.0 ++ (codes " " ++ (image_text fault ++ line_end)))
-fault_line (Unbuilt key) = codes "fault description unbuilt " ++ (key_text key ++ line_end)
 fault_line (CacheAdmission cell needs has) =
     codes "fault admission cell " ++ (decimal cell.0 ++ (codes " needs " ++ (decimal needs ++ (codes " has " ++ (decimal has ++ line_end)))))
 fault_line (Admission guest needs has) =
@@ -79,7 +72,6 @@ abbrev pub status_of : Fault → ℕ
 status_of Words = 2
 status_of (Read name) = 3
 status_of (Description fault) = 5
-status_of (Unbuilt key) = 5
 status_of (BadImage guest fault) = 6
 status_of (CacheAdmission cell needs has) = 7
 status_of (Admission guest needs has) = 7

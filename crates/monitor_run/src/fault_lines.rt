@@ -2,8 +2,8 @@
 ghost use Rattle.std.specs.Prelude.{◌≡◌, string_bytes, IfOk};
 ghost use Rattle.outside_io.specs.Writing.{Writes};
 ghost use Rattle.machine_desc.specs.declared.fault.DescFault.TheVariants.{Range};
-ghost use Rattle.admission.specs.declared.faults.Fault.TheVariants.{Asm, Description, BadImage, Unbuilt};
-ghost use Rattle.monitor_run.specs.FaultLines.{amount_text as amount_text_of, description_text as description_text_of, image_text as image_text_of, cause_text as cause_text_of, key_text as key_text_of, fault_line as fault_line_of};
+ghost use Rattle.admission.specs.declared.faults.Fault.TheVariants.{Asm, Description, BadImage};
+ghost use Rattle.monitor_run.specs.FaultLines.{amount_text as amount_text_of, description_text as description_text_of, image_text as image_text_of, cause_text as cause_text_of, fault_line as fault_line_of};
 
 use admission::Fault;
 use base_words::{GuestId, Name};
@@ -12,7 +12,6 @@ use guest_asm::AsmCause;
 use machine_desc::{Amount, DescFault};
 use outside_io::{Sink, SinkFault};
 use std::alloc::{AllocError, Global};
-use unbuilt_keys::UnbuiltKey;
 
 /// An integer, or the length of a text, a list or an array.
 fn amount_text(alloc: Global, amount: Amount) -> Result<String, AllocError>
@@ -103,15 +102,6 @@ fn cause_text<'a>(cause: AsmCause) -> &'a str
     }
 }
 
-/// The path of a key that isn't built.
-fn key_text(alloc: Global, key: UnbuiltKey) -> Result<String, AllocError>
-    ensures { IfOk result (λ text. string_bytes text ≡ key_text_of key) }
-{
-    match key {
-        UnbuiltKey::Act(item) => format!(in alloc; "work[{item}].act"),
-    }
-}
-
 /// The line of a text of which a line is refused.
 fn asm_line(alloc: Global, line: u32, cause: AsmCause) -> Result<String, AllocError>
     ensures { IfOk result (λ text. string_bytes text ≡ fault_line_of (Asm line cause)) }
@@ -139,15 +129,6 @@ fn image_line(alloc: Global, guest: GuestId, fault: ImageFault) -> Result<String
     format!(in alloc; "fault image {number} {text}\n")
 }
 
-/// The line of a description that asks for what isn't built.
-fn unbuilt_line(alloc: Global, key: UnbuiltKey) -> Result<String, AllocError>
-    ensures { IfOk result (λ line. string_bytes line ≡ fault_line_of (Unbuilt key)) }
-{
-    let text = key_text(alloc, key)?;
-    let text = text.as_str();
-    format!(in alloc; "fault description unbuilt {text}\n")
-}
-
 /// The line of a refusal.
 fn fault_line(alloc: Global, fault: &Fault) -> Result<String, AllocError>
     ensures { IfOk result (λ line. string_bytes line ≡ fault_line_of fault.now) }
@@ -165,7 +146,6 @@ fn fault_line(alloc: Global, fault: &Fault) -> Result<String, AllocError>
         Fault::Asm { line, cause } => asm_line(alloc, *line, *cause),
         Fault::Description(fault) => description_line(alloc, fault),
         Fault::BadImage(guest, fault) => image_line(alloc, *guest, *fault),
-        Fault::Unbuilt(key) => unbuilt_line(alloc, *key),
         Fault::CacheAdmission { cell, needs, has } => {
             let number = cell.0;
             format!(in alloc; "fault admission cell {number} needs {needs} has {has}\n")

@@ -13,4 +13,3 @@ pub use elf_image::ImageFault;
 pub use guest_asm::AsmCause;
 pub use law::{exactly, examples, made_runs, text_runs};
 pub use top::disco;
-pub use unbuilt_keys::UnbuiltKey;

@@ -1,8 +1,7 @@
 //! The run of a description's guests under the monitor.
-ghost use Rattle.std.specs.Prelude.{◌≡◌, IfOk, None};
+ghost use Rattle.std.specs.Prelude.{IfOk};
 ghost use Rattle.machine_desc.specs.Described.{described_seen};
 ghost use Rattle.admission.specs.Ready.{IsSetup};
-ghost use Rattle.unbuilt_keys.specs.Unbuilt.{unbuilt};
 ghost use Rattle.admission.specs.Views.{starts_of};
 ghost use Rattle.monitor_run.specs.Monitored.{IsRun};
 
@@ -24,7 +23,6 @@ pub fn run_monitored<R: Threads + Wait + Sync, G: Gate>(
     gate: &G,
 ) -> Result<RunRecord, AllocError>
     requires setup { IsSetup setup }
-    requires built { unbuilt (described_seen setup.machine setup.plan) ≡ None }
     ensures { IfOk result (IsRun (described_seen setup.machine setup.plan) (starts_of setup)) }
 {
     isolation();

@@ -6,7 +6,6 @@ ghost use Rattle.guest_asm.specs.Listing.{listing_of as listing_text};
 ghost use Rattle.outside_io.specs.Writing.{Writes};
 ghost use Rattle.admission.specs.Jobs.{Monitored, Alone, Print, Litmus, Listing};
 ghost use Rattle.admission.specs.Ready.{IsReady, IsSetup};
-ghost use Rattle.unbuilt_keys.specs.Unbuilt.{unbuilt};
 ghost use Rattle.admission.specs.Views.{job_seen, starts_of};
 ghost use Rattle.admission.specs.Words.{texts};
 ghost use Rattle.monitor_run.specs.Ends.{Ends, Tells, nothing, status_put};
@@ -42,7 +41,7 @@ fn status_of(fault: &Fault) -> u8
     match fault {
         Fault::Words => 2,
         Fault::Read(_) => 3,
-        Fault::Description(_) | Fault::Unbuilt(_) => 5,
+        Fault::Description(_) => 5,
         Fault::BadImage(_, _) => 6,
         Fault::CacheAdmission { .. } | Fault::Admission { .. } => 7,
         Fault::Long(_) => 8,
@@ -82,7 +81,6 @@ fn carry_out<R: Threads + Wait + Sync, K: Sink, G: Gate>(
     out: &mut RunRecord,
 ) -> u8
     requires setup { IsSetup setup }
-    requires built { unbuilt (described_seen setup.machine setup.plan) ≡ None }
     requires empty { out.old ≡ nothing }
     ensures { Ends (Ok (Monitored (described_seen setup.machine setup.plan) (starts_of setup) sums)) (K.view sink.old) (K.view sink.new) out.new result }
 {

@@ -18,7 +18,9 @@ use Rattle.guest_core.specs.Noting.{HoldsOf, MayFollow}
 use Rattle.guest_core.specs.declared.records.Cut.{Cut}
 use Rattle.guest_core.specs.declared.records.Cut.TheVariants.{Whole, VcpuHalted, GuestEnded, CellFailed}
 use Rattle.plan_due.specs.Stops.{Stop, told_of_stop}
-use Rattle.plan_due.specs.Fates.{Fate, Ends, Stays, WasEnded, WasDead, IsToldFate, AreToldFates, ended_by, ended_from}
+use Rattle.guest_core.specs.declared.answers.Fate.{Fate}
+use Rattle.guest_core.specs.declared.answers.Fate.TheVariants.{Ends, Stays, WasEnded, WasDead}
+use Rattle.guest_lock.specs.Fates.{IsToldFate, AreToldFates, ended_by, ended_from}
 use Rattle.plan_due.specs.Planned.{Work, Runs, Asks, Fails, Planned, fails_of, is_fail_of}
 use Rattle.plan_due.specs.PlanDue.{Left, is_end_by, ended_by_cell, CutBy, HasSteps, IsDone, AreDone}
 use Rattle.plan_due.specs.Slices.{Machine, vcpu_at, IsCause, IsToldWork, IsTold}

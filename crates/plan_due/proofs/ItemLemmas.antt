@@ -19,7 +19,9 @@ use Rattle.guest_core.specs.declared.records.FailureRecord.{FailureRecord}
 use Rattle.plan_due.specs.Stops as stop
 use Rattle.plan_due.specs.Stops.{Stop, told_of_stop}
 use Rattle.guest_lock.specs.Told.{IsStep}
-use Rattle.plan_due.specs.Fates.{Fate, Ends, Stays, WasEnded, WasDead, IsToldFate, AreToldFates}
+use Rattle.guest_core.specs.declared.answers.Fate.{Fate}
+use Rattle.guest_core.specs.declared.answers.Fate.TheVariants.{Ends, Stays, WasEnded, WasDead}
+use Rattle.guest_lock.specs.Fates.{IsToldFate, AreToldFates}
 use Rattle.plan_due.specs.Planned.{Work, Runs, Asks, Fails, Planned, runs_of, fails_of, is_run_of, wish_of}
 use Rattle.plan_due.specs.PlanDue.{is_load_of}
 use Rattle.plan_due.specs.Slices.{Machine, IsToldFailure, IsToldWork, IsTold}

@@ -1,6 +1,5 @@
 pub mod Planned
 pub mod Stops
-pub mod Fates
 pub mod Failures
 pub mod Slices
 pub mod PlanDue

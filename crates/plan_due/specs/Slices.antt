@@ -15,7 +15,8 @@ use Rattle.guest_core.specs.declared.records.Cut.TheVariants.{Whole, VcpuHalted,
 use Rattle.plan_due.specs.Stops as stop
 use Rattle.plan_due.specs.Stops.{Stop, told_of_stop}
 use Rattle.guest_lock.specs.Told.{AreSteps}
-use Rattle.plan_due.specs.Fates.{Fate, AreToldFates, ended_from}
+use Rattle.guest_core.specs.declared.answers.Fate.{Fate}
+use Rattle.guest_lock.specs.Fates.{AreToldFates, ended_from}
 use Rattle.plan_due.specs.Planned.{Work, Runs, Asks, Fails, Planned}
 use Rattle.plan_due.specs.declared.outcome.Outcome.{Outcome}
 use Rattle.plan_due.specs.declared.outcome.Outcome.TheVariants.{Slice, Asked, Failure}

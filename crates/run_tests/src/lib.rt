@@ -10,6 +10,8 @@ mod examples;
 #[cfg(test)]
 mod handlers;
 #[cfg(test)]
+mod hostile;
+#[cfg(test)]
 mod journals;
 #[cfg(test)]
 mod litmus_files;

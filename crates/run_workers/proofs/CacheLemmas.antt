@@ -2,7 +2,7 @@
 use Rattle.std.proofs.Common.{◌≡◌, ℕ, zero, suc, ◌+◌, ◌*◌, ◌<◌, List, [], ◌∷◌, ◌++◌, length, map, take, get_or, Option, Some, None, refl, sym, ap, ◌∙◌, subst, arith, append-nil, append_assoc}
 use Rattle.std.proofs.lemmas.List.Elements.{All-nil, All-cons}
 use Rattle.std.specs.Option.{option_map_or}
-use Rattle.std.specs.Prelude.{slice_get, slice_index_or, All}
+use Rattle.std.specs.Prelude.{slice_get, slice_index_or}
 use Rattle.base_words.specs.declared.ids.CellId.{CellId}
 use Rattle.frame_words.specs.declared.terms.Terms.{Terms}
 use Rattle.node_frames.specs.Layout.{Layout}

@@ -17,9 +17,11 @@ use Rattle.guest_lock.specs.Told.{with_told}
 use Rattle.plan_due.specs.Planned.{Planned, planned_as, planned}
 use Rattle.plan_due.specs.Slices.{Machine, IsSlice, IsTold, own, AreTold}
 use Rattle.plan_due.specs.declared.outcome.Outcome.{Outcome}
-use Rattle.plan_due.specs.declared.outcome.Outcome.TheVariants.{Slice, Asked}
+use Rattle.plan_due.specs.declared.outcome.Outcome.TheVariants.{Slice, Asked, Failure}
 use Rattle.run_workers.specs.Parts.{as_list}
 use Rattle.run_workers.specs.Working.{cell_in, machine_of, wish_for, Serves, is_own, Carries, CarriesOne}
+use Rattle.base_words.specs.declared.ids.CellId.{CellId}
+use Rattle.guest_lock.specs.Fates.{FailsFirst}
 
 -- ---- lists
 
@@ -106,4 +108,12 @@ carries-ask starts number p g page kind node old new token = record {
   told = sided g.0 (note_of (wish_for page kind node)) ∷ [];
   is = refl;
   token = token;
+}
+
+pub carries-fail : (starts : List Boot) (number : ℕ) (p : ProcId) (cell : CellId) (old new : Token) (ended : List GuestId) → FailsFirst cell (length starts) old new ended
+    → Carries (machine_of starts) (planned_as number (Fail p cell)) old (Failure (record { item = number; cell = cell; ended = ended })) new
+carries-fail starts number p cell old new ended f = record {
+  told = f.told;
+  is = record { number = refl; cell_is = refl; fates = f.fates; all = f.all; are = f.are; ended = f.ended_are };
+  token = f.token;
 }

@@ -166,6 +166,7 @@ end-still g h packeted.Delivered takes = takes.1.not_ended ∙ sym takes.0.not_e
 end-still g h (packeted.Begun q) takes = takes.has.goes_on ∙ sym takes.has.not_ended
 end-still g h (packeted.Finished q) takes = takes.has.goes_on ∙ sym takes.has.not_ended
 end-still g h (packeted.Waits q set) takes = takes.has.goes_on ∙ sym takes.has.not_ended
+end-still g h (packeted.Discarded cell) takes = takes.not_ended ∙ sym takes.armed.not_ended
 end-still g h packeted.NoneInHand takes = ap (λ s. s.end) takes.stays.state
 end-still g h packeted.NotArmed takes = ap (λ (m : Monitored). m.state.end) takes.same
 

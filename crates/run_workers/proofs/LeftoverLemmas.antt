@@ -23,6 +23,7 @@ use Rattle.run_workers.specs.Working.{cell_in, machine_of, ItemFits, IsOn}
 use Rattle.run_workers.specs.WholeRecord.{lefts_of}
 use Rattle.run_workers.specs.Ending.{AreLeft, AllTold}
 use Rattle.run_workers.proofs.WholeLemmas.{get-index, all-get, get-there, at-place, state-count}
+use Rattle.machine_desc.specs.Bounds.{item_fails}
 
 -- ---- guests at the end
 
@@ -99,24 +100,26 @@ all-places starts count guests k (item ∷ items) same places on =
     by (Move p g page kind node) place is =
         let few = (get-index starts g.0 place.start place.start place.named).0 in
         record { on = is; guest = get-there guests g.0 (omega (arith, few, same)) }
-    by (Fail p cell) place is = absurd place
+    by (Fail p cell) place is = record { on = is; guest = tt }
 
--- no item is a failure
-no-failures : (starts : List Boot) (c k : ℕ) (items : List Item) → All (ItemFits starts) items → count_by (is_fail_of c) (planned k items) ≡ 0
-no-failures starts c k [] places = refl
-no-failures starts c k (item ∷ items) places = by item (places 0 item (omega arith)) (no-failures starts c (suc k) items (λ i d l. places (suc i) d (omega (arith, l))))
+-- as many items fail a cell in the plan as in its numbered items
+failures-count : (c k : ℕ) (items : List Item) → count_by (is_fail_of c) (planned k items) ≡ count_by (item_fails c) items
+failures-count c k [] = refl
+failures-count c k (item ∷ items) = by item (failures-count c (suc k) items)
   where
-    by : (item : Item) → ItemFits starts item → count_by (is_fail_of c) (planned (suc k) items) ≡ 0 → count_by (is_fail_of c) (planned_as k item ∷ planned (suc k) items) ≡ 0
-    by (Run p g v steps) place rest =
-        let first = sum_by-cons (λ (x : Planned). cond {A = ℕ} (is_fail_of c x) 1 0) (planned_as k (Run p g v steps)) (planned (suc k) items) in
-        omega (arith, first, rest)
-    by (Move p g page kind node) place rest =
-        let first = sum_by-cons (λ (x : Planned). cond {A = ℕ} (is_fail_of c x) 1 0) (planned_as k (Move p g page kind node)) (planned (suc k) items) in
-        omega (arith, first, rest)
-    by (Fail p cell) place rest = absurd place
+    by : (item : Item) → count_by (is_fail_of c) (planned (suc k) items) ≡ count_by (item_fails c) items → count_by (is_fail_of c) (planned_as k item ∷ planned (suc k) items) ≡ count_by (item_fails c) (item ∷ items)
+    by item rest =
+        let left = sum_by-cons (λ (x : Planned). cond {A = ℕ} (is_fail_of c x) 1 0) (planned_as k item) (planned (suc k) items) in
+        let right = sum_by-cons (λ (x : Item). cond {A = ℕ} (item_fails c x) 1 0) item items in
+        left ∙ (λ i. cond {A = ℕ} (same item i) 1 0 + rest i) ∙ sym right
+      where
+        same : (x : Item) → is_fail_of c (planned_as k x) ≡ item_fails c x
+        same (Run p g v steps) = refl
+        same (Move p g page kind node) = refl
+        same (Fail p cell) = refl
 
-pub fails-once : (starts : List Boot) (items : List Item) → All (ItemFits starts) items → (c : ℕ) → count_by (is_fail_of c) (planned 0 items) ≤ 1
-fails-once starts items places c = let none = no-failures starts c 0 items places in omega (arith, none)
+pub fails-once : (items : List Item) → ((c : ℕ) → count_by (item_fails c) items ≤ 1) → (c : ℕ) → count_by (is_fail_of c) (planned 0 items) ≤ 1
+fails-once items once c = subst (λ (n : ℕ). n ≤ 1) (sym (failures-count c 0 items)) (once c)
 
 pub guest-count : (starts : List Boot) (board : TableId) (states : List GuestState) (lefts : List GuestRecord) (seats : List Seat) → AreLeft starts board 0 states lefts seats → length lefts ≡ length starts → length (lefts_of states lefts) ≡ length starts
 guest-count starts board states lefts seats are same = lefts-count states lefts (state-count starts board 0 states lefts seats are) ∙ same

@@ -1,11 +1,11 @@
 -- One item: what its token is told from the load to the unload.
-use Rattle.std.proofs.Common.{◌≡◌, ℕ, List, [], ◌∷◌, ◌++◌, refl, sym, ap, ◌∙◌, subst, Some, unwrap_or, false, true}
+use Rattle.std.proofs.Common.{◌≡◌, ℕ, List, [], ◌∷◌, ◌++◌, refl, ap, ◌∙◌, subst, Some, unwrap_or, false, true, ◌==◌, if◌then◌else◌, arith, Bool, ◌<◌}
 use Rattle.base_words.specs.declared.ids.ProcId.{ProcId}
 use Rattle.base_words.specs.declared.ids.VcpuId.{VcpuId}
 use Rattle.base_words.specs.declared.events.End.{End}
 use Rattle.base_words.specs.declared.events.Event.TheVariants.{Load, Unload}
 use Rattle.shootdown.specs.declared.notes.Note.{Note}
-use Rattle.shootdown.specs.declared.notes.Note.TheVariants.{Made, Ended}
+use Rattle.shootdown.specs.declared.notes.Note.TheVariants.{Made}
 use Rattle.shootdown.specs.Notes.{Token}
 use Rattle.guest_core.specs.Noting.{loaded_by}
 use Rattle.guest_core.specs.GuestCalls.{processor_of}
@@ -16,8 +16,11 @@ use Rattle.guest_lock.specs.declared.burst.Stop.TheVariants as stop
 use Rattle.guest_lock.specs.Counted.{goes_on}
 use Rattle.guest_lock.specs.Told.{with_told, shown, vcpu_shown, told_of_stop, AreSteps, Bursts}
 use Rattle.plan_due.specs.Slices.{IsCause, framed}
-use Rattle.plan_due.specs.Stops.{told_of_stop as told_at_end}
+use Rattle.plan_due.specs.Stops as at_end
+use Rattle.plan_due.specs.Stops.{Stop as PlanStop, told_of_stop as told_at_end}
 use Rattle.run_workers.specs.Working.{as_told, Serves}
+use Rattle.base_words.specs.declared.ids.CellId.{CellId}
+use Rattle.guest_core.specs.declared.records.Cut.TheVariants.{Whole, GuestEnded, CellFailed}
 
 -- the laws of guest_lock
 abbrev pub Grows : Type 0
@@ -71,21 +74,31 @@ served-done grows shows g cell item planned v old loaded turned new burst cut lo
       token = token;
     }
 
-pub served-ended : (g : ℕ) (cell item planned : ℕ) (v : VcpuId) (old new : Token) (burst : Burst) (end : End) (cut : Cut) →
-    burst ≡ record { turns = 0; steps = 0; stop = stop.GuestEnded end } → new ≡ with_told old g (Ended end ∷ []) → IsCause cell planned burst.steps (as_told burst.stop) cut →
-    Serves cell item v planned old g (record { item = item; steps = burst.steps; cause = cut }) new
-served-ended g cell item planned v old new burst end cut none token cause =
-    let steps : burst.steps ≡ 0 = ap (λ (b : Burst). b.steps) none in
-    record {
-      told = Ended end ∷ [];
-      is = record {
-        number = refl;
-        loaded = false;
-        made = [];
-        by = as_told burst.stop;
-        steps = subst (λ n. AreSteps (processor_of old) v n []) (sym steps) tt;
-        notes = ap (λ (b : Burst). told_at_end v (as_told b.stop)) (sym none);
-        cause = cause;
-      };
-      token = token;
-    }
+-- nothing was loaded
+pub served-none : (g cell item planned : ℕ) (v : VcpuId) (old new : Token) (by : PlanStop) (cut : Cut) → new ≡ with_told old g (told_at_end v by) → IsCause cell planned 0 by cut → Serves cell item v planned old g (record { item = item; steps = 0; cause = cut }) new
+served-none g cell item planned v old new by cut token cause = record {
+  told = told_at_end v by;
+  is = record { number = refl; loaded = false; made = []; by = by; steps = tt; notes = refl; cause = cause };
+  token = token;
+}
+
+-- the guest has ended, or the cell of its processor has failed
+no-steps : (planned : ℕ) → (planned == 0) ≡ true → 0 ≡ planned
+no-steps planned e = grind arith
+
+some-steps : (planned : ℕ) → (planned == 0) ≡ false → 0 < planned
+some-steps planned e = grind arith
+
+pub cause-ended : (cell planned : ℕ) (end : End) → IsCause cell planned 0 (at_end.GuestEnded end) (if planned == 0 then Whole else GuestEnded end)
+cause-ended cell planned end = by (planned == 0) refl
+  where
+    by : (b : Bool) → (planned == 0) ≡ b → IsCause cell planned 0 (at_end.GuestEnded end) (if b then Whole else GuestEnded end)
+    by true is = no-steps planned is
+    by false is = (some-steps planned is, refl)
+
+pub cause-dead : (cell planned : ℕ) (dead : CellId) → dead.0 ≡ cell → IsCause cell planned 0 (at_end.CellDead dead) (if planned == 0 then Whole else CellFailed dead)
+cause-dead cell planned dead own = by (planned == 0) refl
+  where
+    by : (b : Bool) → (planned == 0) ≡ b → IsCause cell planned 0 (at_end.CellDead dead) (if b then Whole else CellFailed dead)
+    by true is = no-steps planned is
+    by false is = (some-steps planned is, refl, refl, own)

@@ -1,5 +1,5 @@
 -- From a description to the run of its guests.
-use Rattle.std.proofs.Common.{◌≡◌, ℕ, zero, suc, ◌+◌, ◌<◌, List, [], ◌∷◌, map, length, refl, sym, ap, ◌∙◌, subst, arith, inl, inr, true, Option, Some, None, Result, Ok, Err, IfOk}
+use Rattle.std.proofs.Common.{◌≡◌, ℕ, zero, suc, ◌+◌, ◌<◌, List, [], ◌∷◌, map, length, refl, sym, ap, ◌∙◌, subst, arith, inl, inr, Option, Some, None, Result, Ok, Err, IfOk}
 use Rattle.std.specs.Prelude.{slice_get, slice_index_or}
 use Rattle.std.specs.Option.{IsSomeAnd}
 use Rattle.std.specs.declared.alloc.AllocError.{AllocError}
@@ -28,8 +28,6 @@ use Rattle.wire_queue.specs.declared.lists.PassList.{PassList}
 use Rattle.guest_core.specs.GuestView.{Monitored, Shared}
 use Rattle.guest_core.specs.MoveCalls.{IsPlanned}
 use Rattle.guest_core.specs.declared.records.RunRecord.{RunRecord}
-use Rattle.unbuilt_keys.specs.Unbuilt.{is_built}
-use Rattle.unbuilt_keys.specs.Built.{IsBuilt}
 use Rattle.run_workers.specs.Starting.{around_of, IsStart, AreStarts, AreSources}
 use Rattle.run_workers.specs.WholeRecord.{IsWhole}
 use Rattle.run_workers.specs.Working.{cell_in, ItemFits, IsOn}
@@ -68,8 +66,8 @@ kind-fits nodes page spec Break node w is home to = absurd to
 kind-fits nodes page spec TakeShared node w is home to = absurd to
 kind-fits nodes page spec GiveShared node w is home to = absurd to
 
-item-fits : (d : Described) (sources : List Source) (board : TableId) (shared : Shared) (guests : List Monitored) (item : Item) → IsAccepted d → length guests ≡ length d.guests → AreSources d.guests sources → AreBooted d sources board shared guests → IsItem d item → is_built item ≡ true → ItemFits (map start_of guests) item
-item-fits d sources board shared guests (Run p g v steps) accepted count from are is built = by (slice_get d.guests g.0) refl is.of
+item-fits : (d : Described) (sources : List Source) (board : TableId) (shared : Shared) (guests : List Monitored) (item : Item) → IsAccepted d → length guests ≡ length d.guests → AreSources d.guests sources → AreBooted d sources board shared guests → IsItem d item → ItemFits (map start_of guests) item
+item-fits d sources board shared guests (Run p g v steps) accepted count from are is = by (slice_get d.guests g.0) refl is.of
   where
     by : (o : Option GuestSpec) → slice_get d.guests g.0 ≡ o → IsSomeAnd o (λ spec. v.0 < spec.vcpus) → ItemFits (map start_of guests) (Run p g v steps)
     by None e of = absurd of
@@ -80,7 +78,7 @@ item-fits d sources board shared guests (Run p g v steps) accepted count from ar
         let same = same-some started.2.spec spec (sym started.2.spec_is ∙ e) in
         let vcpus : guest.0.start.vcpus ≡ spec.vcpus = started.2.start.vcpus ∙ ap (λ (s : GuestSpec). s.vcpus) same in
         record { start = guest.0.start; named = map-get start_of guests g.0 guest.0 guest.1; vcpu = subst (λ n. v.0 < n) (sym vcpus) of }
-item-fits d sources board shared guests (Move p g page kind node) accepted count from are is built = by (slice_get d.guests g.0) refl is.of is.to
+item-fits d sources board shared guests (Move p g page kind node) accepted count from are is = by (slice_get d.guests g.0) refl is.of is.to
   where
     by : (o : Option GuestSpec) → slice_get d.guests g.0 ≡ o → IsSomeAnd o (λ spec. page.0 < spec.pages) → IsSomeAnd o (λ spec. LeadsTo d.nodes spec kind node) → ItemFits (map start_of guests) (Move p g page kind node)
     by None e of to = absurd of
@@ -106,7 +104,7 @@ item-fits d sources board shared guests (Move p g page kind node) accepted count
             planned = fits.1;
           };
         }
-item-fits d sources board shared guests (Fail p cell) accepted count from are is built = absurd cc
+item-fits d sources board shared guests (Fail p cell) accepted count from are is = omega (arith, is.of, accepted.few_cells)
 
 item-on : (d : Described) (count : ℕ) (item : Item) → count ≡ length d.processors → IsItem d item → IsOn count item
 item-on d count (Run p g v steps) same is = subst (λ n. p.0 < n) (sym same) is.on
@@ -124,8 +122,8 @@ cells-at d sources board shared guests (x ∷ all) are g guest at p within =
     let other : cell_of_processor x.start.around p ≡ cell_of_processor (around_of d 0 first.spec) p = ap (λ (w : Surroundings). cell_of_processor w p) first.start.around in
     one ∙ sym other
 
-pub may-run : (d : Described) (sources : List Source) (guests : List Monitored) (tokens : List Token) (shared : Shared) (holder : Holding) → IsAccepted d → IsBuilt d → AreSources d.guests sources → HasBooted d sources guests tokens shared holder → MayRun guests tokens shared d.items
-may-run d sources guests tokens shared holder accepted built from booted =
+pub may-run : (d : Described) (sources : List Source) (guests : List Monitored) (tokens : List Token) (shared : Shared) (holder : Holding) → IsAccepted d → AreSources d.guests sources → HasBooted d sources guests tokens shared holder → MayRun guests tokens shared d.items
+may-run d sources guests tokens shared holder accepted from booted =
     let many = sources-count d.guests sources from in
     let board = booted.board in
     let are = booted.guests_are in
@@ -148,8 +146,9 @@ may-run d sources guests tokens shared holder accepted built from booted =
       processors = λ g guest at. (let started = (started-at d sources board shared guests g guest are at).2 in ap (λ w. length w.processors) started.start.around ∙ length-map d.processors (λ n. n.0) ∙ sym length-is);
       cells = λ g guest at p. cells-at d sources board shared guests guests are g guest at p (λ i x e. e);
       few_items = omega arith;
-      places = λ i e l. item-fits d sources board shared guests (slice_index_or d.items i e) accepted all from are (accepted.items i e l) (built.built i e l);
+      places = λ i e l. item-fits d sources board shared guests (slice_index_or d.items i e) accepted all from are (accepted.items i e l);
       on = λ i e l. item-on d (length tokens) (slice_index_or d.items i e) length-is (accepted.items i e l);
+      failed_once = accepted.failed_once;
     }
 
 starts-from : (d : Described) (k : ℕ) (specs : List GuestSpec) (sources : List Source) (inputs : List (List InputEntry)) (guests : List Monitored) → length sources ≡ length specs → length inputs ≡ length specs → length guests ≡ length specs

@@ -1,5 +1,5 @@
 -- What a run needs of its guests, tokens and items, and what it leaves.
-use Rattle.std.specs.Prelude.{◌≡◌, ℕ, ◌<◌, ◌≤◌, ◌^◌, List, [], ◌∷◌, length, map, All, slice_get, Some}
+use Rattle.std.specs.Prelude.{◌≡◌, ℕ, ◌<◌, ◌≤◌, ◌^◌, List, [], ◌∷◌, length, map, All, slice_get, Some, count_by}
 use Rattle.base_words.specs.Limits.{most_processors}
 use Rattle.atomic_table.specs.Seated.{TableId}
 use Rattle.shootdown.specs.Notes.{Token}
@@ -16,6 +16,7 @@ use Rattle.run_workers.specs.WholeRecord.{AreRecords, AllDue}
 use Rattle.run_workers.specs.Working.{cell_in, ItemFits, IsOn}
 use Rattle.run_workers.specs.Booting.{no_board, start_of, IsFresh}
 use Rattle.run_workers.specs.Ending.{AllTold, EndDrained}
+use Rattle.machine_desc.specs.Bounds.{item_fails}
 
 -- the board of the first token
 abbrev pub board_of_tokens : List Token → TableId
@@ -37,6 +38,7 @@ pub record MayRun (guests : List Monitored) (tokens : List Token) (shared : Shar
   pub few_items : length items < 2 ^ 32
   pub places : All (ItemFits (map start_of guests)) items
   pub on : All (IsOn (length tokens)) items
+  pub failed_once : (cell : ℕ) → count_by (item_fails cell) items ≤ 1
 
 -- the record of a run of these guests: each journal leads from its guest's start to its last state, and all is due; and their ends of
 -- these wires

@@ -8,7 +8,7 @@ use Rattle.guest_lock.specs.Fits.{Fits}
 use Rattle.plan_due.specs.Planned.{planned}
 use Rattle.plan_due.specs.Slices.{Machine, own, AreTold}
 use Rattle.plan_due.specs.declared.outcome.Outcome.{Outcome}
-use Rattle.run_workers.specs.Working.{IsSameToken, ItemFits}
+use Rattle.run_workers.specs.Working.{IsSameToken, ItemFits, AreOfOneMachine}
 use Rattle.run_workers.specs.declared.workers.Worker.{Worker}
 
 -- the plan is one of the run's guests
@@ -16,6 +16,7 @@ pub record IsPlanOf (starts : List Boot) (items : List Item) : Type 0 where
   pub few : length starts ≤ 8
   pub few_items : length items < 2 ^ 32
   pub places : All (ItemFits starts) items
+  pub cells : AreOfOneMachine starts
 
 -- a worker's token is one of the run, without notes
 pub record IsReady (starts : List Boot) (board : TableId) (worker : Worker) : Type 0 where

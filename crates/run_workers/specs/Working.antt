@@ -23,6 +23,7 @@ use Rattle.plan_due.specs.Slices.{Machine, IsSlice, IsTold}
 use Rattle.plan_due.specs.Stops.{Stop}
 use Rattle.plan_due.specs.Stops as stop
 use Rattle.plan_due.specs.declared.outcome.Outcome.{Outcome}
+use Rattle.base_words.specs.Limits.{most_cells}
 
 -- the machine of these guests: the cell of each processor, as the first of them is told, and how many they are
 abbrev pub cell_in : List Boot → ℕ → ℕ
@@ -31,6 +32,10 @@ cell_in (b ∷ starts) p = cell_of_processor b.around p
 
 abbrev pub machine_of : List Boot → Machine
 machine_of starts = record { cell_at = cell_in starts; guests = length starts }
+
+-- each guest is told the same of the processors' cells
+abbrev pub AreOfOneMachine : List Boot → Type 0
+AreOfOneMachine starts = (g : ℕ) (b : Boot) → slice_get starts g ≡ Some b → (p : ℕ) → cell_of_processor b.around p ≡ cell_in starts p
 
 -- the run has the guest of a run item, with its virtual processor
 pub record HasPlace (starts : List Boot) (g v : ℕ) : Type 0 where
@@ -48,11 +53,11 @@ pub record HasMove (starts : List Boot) (g : ℕ) (wish : Wish) : Type 0 where
   pub named : slice_get starts g ≡ Some start
   pub may : MayAsk start wish
 
--- so far an item is a run or a move
+-- an item fits the run; a cell that fails is one of those that a machine may have
 abbrev pub ItemFits : List Boot → Item → Type 0
 ItemFits starts (Run processor guest vcpu steps) = HasPlace starts guest.0 vcpu.0
 ItemFits starts (Move processor guest page kind node) = HasMove starts guest.0 (wish_for page kind node)
-ItemFits starts (Fail processor cell) = ⊥
+ItemFits starts (Fail processor cell) = cell.0 < most_cells
 
 -- board and number stay
 pub record IsSameToken (old new : Token) : Type 0 where

@@ -8,12 +8,12 @@ ghost use Rattle.guest_lock.specs.Told.{shown, with_told};
 ghost use Rattle.plan_due.specs.Planned.{planned};
 ghost use Rattle.plan_due.specs.Slices.{own, AreTold};
 ghost use Rattle.run_workers.specs.Parts.{as_list};
-ghost use Rattle.run_workers.specs.Working.{cell_in, machine_of, wish_for, is_own as is_own_of, IsSameToken, HasPlace, HasMove, ItemFits, Serves, CarriesOne};
+ghost use Rattle.run_workers.specs.Working.{cell_in, machine_of, AreOfOneMachine, wish_for, is_own as is_own_of, IsSameToken, HasPlace, HasMove, ItemFits, Serves, CarriesOne};
 
 use crate::serving::{Job, serve};
 use base_words::{GuestId, MoveKind, NodeId, Ppn, ProcId};
-use guest_core::{Asked, Resources, SliceRecord};
-use guest_lock::{GuestCell, GuestCells, Starts};
+use guest_core::{Asked, FailureRecord, Resources, SliceRecord};
+use guest_lock::{GuestCell, GuestCells, Starts, fail_all};
 use machine_desc::Item;
 use outside_io::Gate;
 use plan_due::{Outcome, items_unload};
@@ -34,6 +34,7 @@ fn serve_at<N: Starts, const G: u8, R: Wait, T: Gate>(
     requires there { IsThere cell.now G N.starts }
     requires token { Fits N.starts N.board token.old }
     requires place { HasPlace N.starts G job.vcpu.0 }
+    requires cells { AreOfOneMachine N.starts }
     requires free { shown G token.old ≡ None }
     requires shared { shared_by resources.now ≡ N.shared }
     ensures served { IfOk result (λ slice. Serves (cell_in N.starts token.old.number) job.item job.vcpu job.steps token.old G slice token.new) }
@@ -58,6 +59,7 @@ fn serve_job<N: Starts, R: Wait, T: Gate>(
     requires few { length N.starts ≤ 8 }
     requires token { Fits N.starts N.board token.old }
     requires place { HasPlace N.starts job.guest.0 job.vcpu.0 }
+    requires cells { AreOfOneMachine N.starts }
     requires free { shown job.guest.0 token.old ≡ None }
     requires shared { shared_by resources.now ≡ N.shared }
     ensures served { IfOk result (λ slice. Serves (cell_in N.starts token.old.number) job.item job.vcpu job.steps token.old job.guest.0 slice token.new) }
@@ -166,6 +168,7 @@ fn carry_one<N: Starts, R: Wait, T: Gate>(
     requires few { length N.starts ≤ 8 }
     requires token { Fits N.starts N.board token.old }
     requires place { ItemFits N.starts item }
+    requires cells { AreOfOneMachine N.starts }
     requires free { (g : _) → shown g token.old ≡ None }
     requires shared { shared_by resources.now ≡ N.shared }
     ensures carried { IfOk result (λ outcome. CarriesOne (machine_of N.starts) number item token.old outcome token.new) }
@@ -206,7 +209,14 @@ fn carry_one<N: Starts, R: Wait, T: Gate>(
             ask_job(rt, alloc, cells, token, resources, job)?;
             Ok(Some(Outcome::Asked))
         }
-        Item::Fail { .. } => unreachable!(),
+        Item::Fail { cell, .. } => {
+            let ended = fail_all(rt, alloc, token, cells, cell, resources)?;
+            Ok(Some(Outcome::Failure(FailureRecord {
+                item: number,
+                cell,
+                ended,
+            })))
+        }
     }
 }
 
@@ -234,6 +244,7 @@ pub(crate) fn carry_out<N: Starts, R: Wait, T: Gate>(
     requires few_items { length items.now < 2 ^ 32 }
     requires token { Fits N.starts N.board token.old }
     requires places { All (ItemFits N.starts) items.now }
+    requires cells { AreOfOneMachine N.starts }
     requires no_notes { token.old.notes ≡ [] }
     requires shared { shared_by resources.now ≡ N.shared }
     ensures told { IfOk result (λ outcomes. AreTold (machine_of N.starts) (own token.new.number (planned 0 items.now)) outcomes.items token.new.notes) }

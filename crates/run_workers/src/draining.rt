@@ -73,7 +73,10 @@ fn settle<R: Wait>(
         guest.make_room()?;
         match guest.packet_in(rt, alloc, resources)? {
             Packeted::Delivered | Packeted::NotArmed => return Ok(()),
-            Packeted::Begun(_) | Packeted::Finished(_) | Packeted::Waits(..) => {}
+            Packeted::Begun(_)
+            | Packeted::Finished(_)
+            | Packeted::Waits(..)
+            | Packeted::Discarded(_) => {}
             Packeted::NoneInHand => {
                 if has_everything(rt, guest, before, after, resources) {
                     return Ok(());

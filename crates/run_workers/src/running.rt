@@ -1,11 +1,10 @@
 //! A plan's run.
-ghost use Rattle.std.specs.Prelude.{◌≡◌, ◌*◌, [], IfOk, List, None, map};
+ghost use Rattle.std.specs.Prelude.{◌≡◌, ◌*◌, [], IfOk, List, map};
 ghost use Rattle.frame_words.specs.Holders.{IsMade};
 ghost use Rattle.node_frames.specs.Layout.{layout_of};
 ghost use Rattle.isolation_law.specs.Start.{Boot};
 ghost use Rattle.machine_desc.specs.Described.{described_seen};
 ghost use Rattle.machine_desc.specs.Accepted.{IsDescribed};
-ghost use Rattle.unbuilt_keys.specs.Unbuilt.{unbuilt};
 ghost use Rattle.run_workers.specs.Starting.{AreSources, AreStarts, AreServed};
 ghost use Rattle.run_workers.specs.WholeRecord.{IsWhole};
 ghost use Rattle.run_workers.specs.Booting.{start_of};
@@ -31,7 +30,6 @@ use std::alloc::{AllocError, Global};
 use std::marker::Brand;
 use std::sync::Wait;
 use std::thread::Threads;
-use unbuilt_keys::built;
 use wire_queue::{AllPasses, Wires};
 
 /// The run that is named by its guests' starts, by its tokens' board, and by what its guests share. The first holder is left with nothing,
@@ -103,7 +101,6 @@ pub fn finish<R: Threads + Wait + Sync, G: Gate>(
     gate: &G,
 ) -> Result<Finished, AllocError>
     requires described { IsDescribed machine.now plan.now }
-    requires built { unbuilt (described_seen machine.now plan.now) ≡ None }
     requires sources { AreSources machine.now.guests sources }
     requires served { AreServed (layout_of machine.now.shape) machine.now.lends machine.now.cache machine.now.guests }
     ensures run { IfOk result (λ f. (boots : List Boot) × AreStarts (described_seen machine.now plan.now) 0 machine.now.guests sources plan.now.input boots × IsRunOf boots plan.now.items f.wires f.record f.passes) }
@@ -113,7 +110,6 @@ pub fn finish<R: Threads + Wait + Sync, G: Gate>(
     ensures frames { IfOk result (λ f. f.table.terms.frames ≡ machine.now.shape.nodes * machine.now.shape.frames) }
     ensures lends { IfOk result (λ f. f.table.terms.lends ≡ machine.now.lends) }
 {
-    built();
     let mut booted = boot(alloc, machine, plan, sources)?;
     let (record, passes) = run_named::<Brand, R, G>(
         rt,
@@ -147,7 +143,6 @@ pub fn run<R: Threads + Wait + Sync, G: Gate>(
     gate: &G,
 ) -> Result<RunRecord, AllocError>
     requires described { IsDescribed machine.now plan.now }
-    requires built { unbuilt (described_seen machine.now plan.now) ≡ None }
     requires sources { AreSources machine.now.guests sources }
     requires served { AreServed (layout_of machine.now.shape) machine.now.lends machine.now.cache machine.now.guests }
     ensures { IfOk result (λ out. (boots : List Boot) × AreStarts (described_seen machine.now plan.now) 0 machine.now.guests sources plan.now.input boots × IsWhole (described_seen machine.now plan.now) boots out) }

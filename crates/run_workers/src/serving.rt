@@ -1,12 +1,13 @@
 //! One run item, carried out.
-ghost use Rattle.std.specs.Prelude.{◌≡◌, ◌≢◌, ◌≤◌, ℕ, None, IfOk};
+ghost use Rattle.std.specs.Prelude.{◌≡◌, ◌≢◌, ◌≤◌, ◌==◌, if◌then◌else◌, ℕ, None, IfOk};
+ghost use Rattle.guest_core.specs.declared.records.Cut.TheVariants.{Whole};
 ghost use Rattle.guest_core.specs.GuestView.{shared_by};
 ghost use Rattle.guest_lock.specs.declared.burst.Stop.TheVariants.{Paused};
 ghost use Rattle.guest_lock.specs.Counted.{goes_on, resumed};
-ghost use Rattle.guest_lock.specs.Fits.{Fits, HasVcpu};
+ghost use Rattle.guest_lock.specs.Fits.{Fits};
 ghost use Rattle.guest_lock.specs.Told.{shown, Bursts};
 ghost use Rattle.plan_due.specs.Slices.{IsCause};
-ghost use Rattle.run_workers.specs.Working.{as_told, cell_in, IsSameToken, Serves};
+ghost use Rattle.run_workers.specs.Working.{as_told, cell_in, AreOfOneMachine, HasPlace, IsSameToken, Serves};
 
 use base_words::{GuestId, VcpuId};
 use guest_core::{Cut, Loaded, Resources, SliceRecord};
@@ -104,6 +105,17 @@ fn cut_of(burst: Burst, planned: u64) -> Result<Cut, AllocError>
     }
 }
 
+/// The slice of a run item of which no step was made: this cut it short, unless none was planned.
+fn without_steps(job: Job, cut: Cut) -> SliceRecord
+    ensures { result ≡ record { item = job.item; steps = 0; cause = if job.steps == 0 then Whole else cut } }
+{
+    SliceRecord {
+        item: job.item,
+        steps: 0,
+        cause: if job.steps == 0 { Cut::Whole } else { cut },
+    }
+}
+
 /// Carries out a run item of the guest under this lock: loads its virtual processor, makes turns of it, and unloads it.
 pub(crate) fn serve<N: Starts, const G: u8, R: Wait, T: Gate>(
     rt: &R,
@@ -115,7 +127,8 @@ pub(crate) fn serve<N: Starts, const G: u8, R: Wait, T: Gate>(
     job: Job,
 ) -> Result<SliceRecord, AllocError>
     requires token { Fits N.starts N.board token.old }
-    requires vcpu { HasVcpu N.starts G job.vcpu.0 }
+    requires place { HasPlace N.starts G job.vcpu.0 }
+    requires cells { AreOfOneMachine N.starts }
     requires free { shown G token.old ≡ None }
     requires shared { shared_by resources.now ≡ N.shared }
     ensures served { IfOk result (λ slice. Serves (cell_in N.starts token.old.number) job.item job.vcpu job.steps token.old G slice token.new) }
@@ -123,22 +136,18 @@ pub(crate) fn serve<N: Starts, const G: u8, R: Wait, T: Gate>(
 {
     tokens_grow();
     bursts_join();
-    let burst = match cell.load(rt, token, job.vcpu)? {
+    match cell.load(rt, token, job.vcpu)? {
         Loaded::Done => {
             let burst = make_turns(rt, alloc, cell, token, resources, gate, job);
             cell.unload(rt, token);
-            burst
+            Ok(SliceRecord {
+                item: job.item,
+                steps: burst.steps,
+                cause: cut_of(burst, job.steps)?,
+            })
         }
         Loaded::On(_) => unreachable!(),
-        Loaded::Ended(end) => Burst {
-            turns: 0,
-            steps: 0,
-            stop: Stop::GuestEnded(end),
-        },
-    };
-    Ok(SliceRecord {
-        item: job.item,
-        steps: burst.steps,
-        cause: cut_of(burst, job.steps)?,
-    })
+        Loaded::Ended(end) => Ok(without_steps(job, Cut::GuestEnded(end))),
+        Loaded::Dead(cell) => Ok(without_steps(job, Cut::CellFailed(cell))),
+    }
 }

@@ -1,5 +1,4 @@
-use Rattle.std.proofs.Common.{◌≡◌, ◌∙◌, ap, List, ℕ}
-use Rattle.outside_io.specs.declared.memory.HeldFile.{HeldFile}
+use Rattle.std.proofs.Common.{◌≡◌, ◌∙◌, ap}
 use Rattle.machine_desc.specs.Described.{described_seen}
 use Rattle.guest_gen.specs.declared.made.Made.{Made}
 use Rattle.guest_gen.specs.Description.{description_text}

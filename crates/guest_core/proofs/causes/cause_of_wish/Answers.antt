@@ -1,30 +1,24 @@
--- No cell has failed, so the first cause is one that the page shows.
-use Rattle.std.proofs.Common.{if◌then◌else◌, Bool, Some, sym, ap, ◌∙◌}
-use Rattle.base_words.specs.declared.moves.MoveKind.TheVariants.{Migrate, Replicate}
-use Rattle.private_machine.specs.Backing.{page_at}
-use Rattle.isolation_law.specs.Causes.{by_kind}
-use Rattle.isolation_law.specs.Parts.{Shared}
+-- The first cause is a cell that has failed, or else one that the page shows.
+use Rattle.std.proofs.Common.{◌≡◌, Option, Some, sym, ap, ◌∙◌, subst}
+use Rattle.std.specs.Prelude.{IfSome, IfNone}
+use Rattle.base_words.specs.declared.ids.CellId.{CellId}
+use Rattle.isolation_law.specs.Causes.{by_cell, by_end, by_page}
+use Rattle.isolation_law.specs.GuestState.{page}
+use Rattle.isolation_law.specs.Parts.{DeadCell}
+use Rattle.guest_course.specs.CourseView.{state_of}
 use Rattle.guest_course.specs.SkipView.{wanting}
-use Rattle.guest_core.proofs.CauseLemmas.{by-page, of-own}
 use Rattle.guest_core.proofs.causes.cause_of_wish.Goals as goal
 
-pub returns-then-is_shared : goal.returns-then-is_shared
-returns-then-is_shared c = λ p.
-    let course = c.args.course.now in
+pub returns-in-Some : goal.returns-in-Some
+returns-in-Some c =
+    let s = state_of c.args.course.now in
     let wish = wanting c.args.wish in
-    let shared = sym c.is_shared.ensures ∙ c.if-is_shared.true in
-    sym (by-page course p wish c.requires.not_ended ∙ ap (λ (b : Bool). if b then Some Shared else by_kind course.around.site.shape.frames wish.kind wish.node (page_at course.pmap.pages wish.page)) shared)
+    let p = c.args.processor.0 in
+    sym (ap (by_end s p wish) c.requires.not_ended ∙ subst (λ (o : Option CellId). IfSome o (λ cell. by_cell s p wish ≡ Some (DeadCell cell.0))) c.in-Some.is c.dead_cell.ensures.some)
 
-pub returns-in-Migrate : goal.returns-in-Migrate
-returns-in-Migrate c = λ p.
-    let course = c.args.course.now in
+pub returns-in-None : goal.returns-in-None
+returns-in-None c =
+    let s = state_of c.args.course.now in
     let wish = wanting c.args.wish in
-    let own = sym c.is_shared.ensures ∙ c.if-is_shared.false in
-    c.cause_to_migrate.ensures ∙ sym (by-page course p wish c.requires.not_ended ∙ of-own course.around.site.shape.frames wish.kind Migrate wish.node (page_at course.pmap.pages wish.page) c.in-Migrate.is own)
-
-pub returns-in-Replicate : goal.returns-in-Replicate
-returns-in-Replicate c = λ p.
-    let course = c.args.course.now in
-    let wish = wanting c.args.wish in
-    let own = sym c.is_shared.ensures ∙ c.if-is_shared.false in
-    c.cause_to_replicate.ensures ∙ sym (by-page course p wish c.requires.not_ended ∙ of-own course.around.site.shape.frames wish.kind Replicate wish.node (page_at course.pmap.pages wish.page) c.in-Replicate.is own)
+    let p = c.args.processor.0 in
+    c.cause_of_page.ensures ∙ sym (ap (by_end s p wish) c.requires.not_ended ∙ subst (λ (o : Option CellId). IfNone o (by_cell s p wish ≡ by_page s.around.frames wish.kind wish.node (page s wish.page))) c.in-None.is c.dead_cell.ensures.none)

@@ -33,6 +33,8 @@ returns-clause-moves c = record {
   receives = c.moves_counted.ensures.receives;
   ends_delivery = c.moves_counted.ensures.ends_delivery;
   skips = c.moves_counted.ensures.skips;
+  discards = c.moves_counted.ensures.discards;
+  fails = c.moves_counted.ensures.fails;
   ends = c.moves_counted.ensures.ends;
 }
 
@@ -55,4 +57,6 @@ returns-clause-takes c = record {
   tells = c.takes.ensures.tells;
   ended = c.takes.ensures.ended;
   tells_ended = c.takes.ensures.tells_ended;
+  discarded = c.takes.ensures.discarded;
+  tells_discarded = c.takes.ensures.tells_discarded;
 }

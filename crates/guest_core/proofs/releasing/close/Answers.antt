@@ -43,6 +43,21 @@ returns-clause-due c =
     let loaded : loaded_count (state_of c.end.new.self) ≡ loaded_count (state_of old) = ap (λ (l : List Processor). count_by is_loaded l) processors in
     omega (arith, none, loaded)
 
+pub returns-clause-state : goal.returns-clause-state
+returns-clause-state c =
+    let r = c.release_all.ensures in
+    c.end.ensures.state c.args.course.now (gave-up c.args.course.now c.drop_dues.new.self c.release_all.new.course c.drop_dues.ensures r.pages r.spares r.rest)
+
+pub returns-clause-ends : goal.returns-clause-ends
+returns-clause-ends c = λ may.
+    let r = c.release_all.ensures in
+    c.end.ensures.ends c.args.course.now may (gave-up c.args.course.now c.drop_dues.new.self c.release_all.new.course c.drop_dues.ensures r.pages r.spares r.rest)
+
+pub returns-clause-sound : goal.returns-clause-sound
+returns-clause-sound c =
+    let r = c.release_all.ensures in
+    c.end.ensures.sound c.args.course.now c.requires.sound (gave-up c.args.course.now c.drop_dues.new.self c.release_all.new.course c.drop_dues.ensures r.pages r.spares r.rest)
+
 pub let_go-requires : goal.let_go-requires
 let_go-requires c = omega (arith, c.requires.room)
 

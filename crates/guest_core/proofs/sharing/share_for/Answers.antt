@@ -1,5 +1,5 @@
 -- An act that neither takes nor gives a page copies it for that, or does nothing with one.
-use Rattle.std.proofs.Common.{◌≡◌, ℕ, Option, None, inl, refl, sym, ap, ◌∙◌, subst}
+use Rattle.std.proofs.Common.{inl, refl, sym, ◌∙◌}
 use Rattle.guest_course.specs.CourseView.{state_of}
 use Rattle.guest_core.proofs.GivingLemmas.{gives-none}
 use Rattle.guest_core.proofs.sharing.share_for.Goals as goal

@@ -1,7 +1,6 @@
 -- No frame was found on any node of the order, so the page is sent as it is.
-use Rattle.std.proofs.Common.{◌≡◌, ℕ, List, refl, sym, ap, ◌∙◌, subst}
+use Rattle.std.proofs.Common.{◌≡◌, List, sym, ap, ◌∙◌, subst}
 use Rattle.base_words.specs.declared.ids.NodeId.{NodeId}
-use Rattle.node_frames.specs.BootOrder.{boot_nodes}
 use Rattle.node_frames.specs.Layout.{Layout, layout_of}
 use Rattle.node_frames.specs.Searches.{Finds, FindsNone}
 use Rattle.node_frames.specs.declared.answers.FindFault.{FindFault}
@@ -11,7 +10,7 @@ use Rattle.guest_course.specs.Acting.{page_used}
 use Rattle.guest_course.specs.CourseView.{state_of}
 use Rattle.guest_core.specs.Frames.{Refuses}
 use Rattle.guest_core.specs.MoveCalls.{NodesShow}
-use Rattle.guest_core.proofs.GivingLemmas.{gives-no-read, gives-used, same-layout, the-layout}
+use Rattle.guest_core.proofs.GivingLemmas.{gives-no-read, gives-used, same-layout, the-layout, spare-alive}
 use Rattle.guest_core.proofs.sharing.share_page.Goals as goal
 
 pub returns-in-Err-NoFrame-clause-shares : goal.returns-in-Err-NoFrame-clause-shares
@@ -56,6 +55,7 @@ returns-in-Ok-clause-shares c =
       is_page = c.requires.page;
       order = c.in_ok-order.order;
       took = took;
+      lives = spare-alive s (layout_of a.site.shape) c.in_ok-order.order took.node took.place spare c.in_ok-order.ensures.order took.ordered took.lies;
       spare = record {
         layout = layout_of a.site.shape;
         lies = the-layout a;

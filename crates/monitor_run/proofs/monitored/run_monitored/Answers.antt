@@ -1,5 +1,4 @@
-use Rattle.std.proofs.Common.{◌∙◌, ◌≤◌, ℕ, List, Option, length, map, ap, sym, subst}
-use Rattle.std.proofs.lemmas.List.{length-map}
+use Rattle.std.proofs.Common.{◌∙◌, ◌≤◌, ℕ, List, Option, length, ap, sym, subst}
 use Rattle.std.proofs.lemmas.Result.{IfOk-weaker}
 use Rattle.std.specs.Prelude.{All}
 use Rattle.machine_desc.specs.Described.{described_seen}
@@ -21,9 +20,6 @@ sources-requires-clause-few g c =
     let disk = disk_numbered (disks_seen setup.disks) in
     subst (λ (l : List (Option ℕ)). All (λ (number : Option ℕ). length (disk number) ≤ 1024) l) (sym c.as_slice.ensures)
     (few-started setup.machine.guests setup.images disk setup.numbers (ready.images ∙ sym ready.numbers) ready.started)
-
-pub run-requires-clause-built : goal.run-requires-clause-built
-run-requires-clause-built g c κs within = c.requires.built
 
 pub run-requires-clause-sources : goal.run-requires-clause-sources
 run-requires-clause-sources g c κs within =

@@ -1,4 +1,4 @@
-use Rattle.std.proofs.Common.{rules, ◌≡◌, ◌+◌, ◌<◌, ◌≤◌, ◌++◌, ℕ, List, [], ◌∷◌, map, length, get_or, Option, None, sym, ap, ◌∙◌, subst, arith, append_assoc, length-append}
+use Rattle.std.proofs.Common.{rules, ◌≡◌, ◌+◌, ◌<◌, ◌≤◌, ◌++◌, ℕ, List, [], ◌∷◌, length, get_or, Option, None, sym, ap, ◌∙◌, subst, arith, append_assoc, length-append}
 use Rattle.elf_image.specs.declared.image.Image.{Image}
 use Rattle.private_machine.specs.Disk.{Block}
 use Rattle.admission.specs.Views.{disk_numbered}

@@ -2,7 +2,7 @@ use Rattle.std.proofs.Common.{◌≡◌, ℕ, ◌<◌, ◌+◌, ◌++◌, ◌∷
 use Rattle.std.proofs.lemmas.List.{map-append}
 use Rattle.base_words.specs.declared.ids.CellId.{CellId}
 use Rattle.guest_course.specs.BootCalls.{given_blocks}
-use Rattle.block_caches.specs.Filling.{DiskSeen, disk_seen, disks_seen}
+use Rattle.block_caches.specs.Filling.{disk_seen, disks_seen}
 use Rattle.block_caches.specs.declared.filling.HomeDisk.{HomeDisk}
 use Rattle.run_workers.specs.declared.source.Source.{Source}
 use Rattle.run_workers.proofs.CacheLemmas.{first_disks, disk-more, no-disk-more, disks-all}

@@ -12,7 +12,7 @@ run_named-requires-clause-may g c κs within =
     let d = described_seen c.args.machine.now c.args.plan.now in
     let booted = c.in_ok-booted.booted in
     subst (λ (l : List Index). MayRun booted.guests.items booted.tokens (record { table = booted.table; wires = booted.wires; indexes = l }) c.args.plan.now.items) (sym c.deref.ensures.value)
-    (may-run d c.args.sources c.in_ok-booted.booted.guests.items c.in_ok-booted.booted.tokens (record { table = c.in_ok-booted.booted.table; wires = c.in_ok-booted.booted.wires; indexes = c.in_ok-booted.booted.caches.indexes.items }) c.in_ok-booted.booted.holder c.requires.described (c.built.ensures d c.requires.built) c.requires.sources c.in_ok-booted.ensures.booted)
+    (may-run d c.args.sources c.in_ok-booted.booted.guests.items c.in_ok-booted.booted.tokens (record { table = c.in_ok-booted.booted.table; wires = c.in_ok-booted.booted.wires; indexes = c.in_ok-booted.booted.caches.indexes.items }) c.in_ok-booted.booted.holder c.requires.described c.requires.sources c.in_ok-booted.ensures.booted)
 
 pub returns-clause-run : goal.returns-clause-run
 returns-clause-run g c =

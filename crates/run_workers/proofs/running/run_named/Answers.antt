@@ -1,4 +1,4 @@
-use Rattle.std.proofs.Common.{rules, ◌≡◌, map, Some, sym, subst, ◌∙◌, ap, length, List, All}
+use Rattle.std.proofs.Common.{rules, ◌≡◌, map, Some, sym, subst, ◌∙◌, ap, length, List, All, ℕ, ◌≤◌}
 use Rattle.std.specs.Prelude.{slice_index_or}
 use Rattle.std.proofs.lemmas.List.{length-map, with_items_is}
 use Rattle.guest_core.specs.GuestView.{Shared}
@@ -14,7 +14,7 @@ use Rattle.plan_due.specs.Slices.{own, AreTold}
 use Rattle.plan_due.specs.Leftover.{IsPlace, Leftover}
 use Rattle.run_workers.specs.Working.{machine_of, IsOn}
 use Rattle.run_workers.specs.WholeRecord.{lefts_of}
-use Rattle.run_workers.specs.Workers.{IsReady}
+use Rattle.run_workers.specs.Workers.{IsReady, IsPlanOf}
 use Rattle.run_workers.specs.Parts.{token_of, outcomes_of, outcomes_in}
 use Rattle.run_workers.specs.Booting.{start_of}
 use Rattle.run_workers.specs.Ending.{AllLeft, AllTold}
@@ -28,6 +28,16 @@ new-cells-requires g c =
     let board = board_of_tokens c.args.tokens in
     subst (λ b. GuestsFrom g.N.Starts.starts b g.N.Starts.shared 0 c.args.guests.items) (sym c.requires.board)
     (subst (λ (s : List Boot). GuestsFrom s board g.N.Starts.shared 0 c.args.guests.items) (sym c.requires.starts) (subst (λ (t : Shared). GuestsFrom (map start_of c.args.guests.items) board t 0 c.args.guests.items) (sym c.requires.shared) (all-guests board (record { table = c.args.table.now; wires = c.args.wires.now; indexes = c.args.indexes.now }) c.args.guests.items c.requires.may.guests_are)))
+
+pub all_work-requires-clause-plan : goal.all_work-requires-clause-plan
+all_work-requires-clause-plan g c κs within =
+    let may = c.requires.may in
+    subst (λ (s : List Boot). IsPlanOf s c.args.plan.now.items) (sym c.requires.starts) (record {
+      few = subst (λ (n : ℕ). n ≤ 8) (sym (length-map c.args.guests.items start_of)) may.few;
+      few_items = may.few_items;
+      places = may.places;
+      cells = starts-cells c.args.guests.items may.cells;
+    })
 
 pub all_work-requires-clause-ready : goal.all_work-requires-clause-ready
 all_work-requires-clause-ready g c κs within = λ i d l.
@@ -102,7 +112,7 @@ returns-clause-run g c =
       in_step = subst (λ (l : List Token). AreInStep l seats) tokens-are c.close_notes.ensures;
       places = subst (λ n. All (IsPlace n guests) (planned 0 items)) (sym many) (all-places starts (length c.args.tokens) guests 0 items guests-are may.places may.on);
       many = sym guests-are;
-      once = fails-once starts items may.places;
+      once = fails-once items may.failed_once;
     } in
     let dealt-is = ap (λ (l : List Item). dealt (planned 0 l) queues) c.as_slice.ensures in
     record {

@@ -50,5 +50,5 @@ returns-clause-room c =
     let before = c.args.self.now.course in
     let after = c.acknowledge.new.self in
     let done = c.acknowledge.ensures in
-    let keeps : KeepsCalls before after = record { print_room = done.print_room; send_room = done.send_room; cells = done.cells; received = done.packets.received; begins = omega (arith, done.room); skips = done.skips } in
+    let keeps : KeepsCalls before after = record { print_room = done.print_room; send_room = done.send_room; cells = done.cells; received = done.packets.received; discarded = done.packets.discarded; begins = omega (arith, done.room); skips = done.skips } in
     room-used _ _ before after (as-used before after keeps) (omega (arith, ack-due c.laws.ensures.rows c.laws.ensures.moves (state_of before) (state_of after) c.args.processor c.args.page done.acks, c.push.ensures.room))

@@ -1,9 +1,8 @@
 -- A frame was had, or what the act needs was done without it.
-use Rattle.std.proofs.Common.{◌≡◌, ℕ, inr, [], List, Option, Some, None, Ok, refl, sym, ap, ◌∙◌, subst}
+use Rattle.std.proofs.Common.{◌≡◌, ℕ, inr, [], List, Option, Some, None, Ok, sym, ap, ◌∙◌, subst}
 use Rattle.base_words.specs.declared.ids.Ppn.{Ppn}
 use Rattle.base_words.specs.declared.ids.ProcId.{ProcId}
 use Rattle.base_words.specs.declared.ids.VcpuId.{VcpuId}
-use Rattle.shootdown.specs.Notes.{Token}
 use Rattle.shootdown.specs.declared.notes.Note.{Note}
 use Rattle.guest_course.specs.Acting.{page_used}
 use Rattle.guest_course.specs.CourseView.{state_of}
@@ -68,3 +67,27 @@ pub meet-requires-clause-meets : goal.meet-requires-clause-meets
 meet-requires-clause-meets g c =
     let s = state_of c.args.self.now.course in
     inr (ap page_used (c.acts_are_at_hand.ensures s s c.args.token.now.number c.args.vcpu.0 c.args.act c.requires.left) ∙ c.in-Waits.ensures.keeps.used, c.if-is_own_read.ensures.no)
+
+pub returns-in_err-shared-in-Needs-clause-leaves : goal.returns-in_err-shared-in-Needs-clause-leaves
+returns-in_err-shared-in-Needs-clause-leaves g c =
+    let none = told-err (processor_of c.args.token.now) c.args.vcpu c.from_residual.result c.from_residual.ensures.0 in
+    subst (λ (told : List Note). Leaves (guest_of c.args.self.now) c.args.token.now told (guest_of c.share_first.new.self) c.args.token.now) (sym none)
+    (quiet-leaves (guest_of c.args.self.now) (guest_of c.share_first.new.self) c.args.token.now c.share_first.ensures.quiet)
+
+pub returns-in_err-shared-in-Free-clause-leaves : goal.returns-in_err-shared-in-Free-clause-leaves
+returns-in_err-shared-in-Free-clause-leaves g c =
+    let none = told-err (processor_of c.args.token.now) c.args.vcpu c.from_residual-in_err-shared-in-Free.result c.from_residual-in_err-shared-in-Free.ensures.0 in
+    subst (λ (told : List Note). Leaves (guest_of c.args.self.now) c.args.token.now told (guest_of c.share_first-in-Free.new.self) c.args.token.now) (sym none)
+    (quiet-leaves (guest_of c.args.self.now) (guest_of c.share_first-in-Free.new.self) c.args.token.now c.share_first-in-Free.ensures.quiet)
+
+pub returns-in_default-clause-leaves : goal.returns-in_default-clause-leaves
+returns-in_default-clause-leaves g c =
+    let mid = guest_of c.share_first.new.self in
+    let same = (stays (shared_by c.args.resources.now) (guest_of c.args.self.now) c.number-processor.result c.args.vcpu mid c.in_ok-shared-in-Needs.field-0 c.in_default.is c.in_ok-shared-in-Needs.ensures.shares).same in
+    leaves-seen (guest_of c.args.self.now) mid (guest_of c.begin_read.new.self) c.args.token.now c.args.token.now [] same (quiet-leaves mid (guest_of c.begin_read.new.self) c.args.token.now c.begin_read.ensures.quiet)
+
+pub returns-in_ok-carry_out-in-Free-clause-leaves : goal.returns-in_ok-carry_out-in-Free-clause-leaves
+returns-in_ok-carry_out-in-Free-clause-leaves g c =
+    let mid = guest_of c.share_first-in-Free.new.self in
+    let same = (stays (shared_by c.args.resources.now) (guest_of c.args.self.now) c.number-processor.result c.args.vcpu mid c.in_ok-shared-in-Free.field-0 c.in_default-2.is c.in_ok-shared-in-Free.ensures.shares).same in
+    leaves-seen (guest_of c.args.self.now) mid (guest_of c.carry_out.new.self) c.args.token.now c.carry_out.new.token _ same c.in_ok-carry_out-in-Free.ensures.made

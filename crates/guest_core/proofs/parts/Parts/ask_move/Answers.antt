@@ -1,5 +1,5 @@
 -- A move that is asked for is skipped with the first cause that holds, or the page is busy.
-use Rattle.std.proofs.Common.{◌≡◌, ℕ, sym, ap, subst}
+use Rattle.std.proofs.Common.{◌≡◌, ℕ, sym, ap, subst, ◌∙◌}
 use Rattle.base_words.specs.declared.ids.ProcId.{ProcId}
 use Rattle.base_words.specs.declared.moves.By.{By}
 use Rattle.isolation_law.specs.Parts.{Wish}
@@ -11,6 +11,7 @@ use Rattle.guest_core.specs.GuestView.{guest_of}
 use Rattle.guest_core.specs.MoveCalls.{AsksBy}
 use Rattle.guest_core.specs.declared.parts.Parts.{Parts}
 use Rattle.guest_core.proofs.AskLemmas.{skip-asks}
+use Rattle.isolation_law.specs.Causes.{first_cause}
 use Rattle.guest_core.proofs.parts.Parts.ask_move.Goals as goal
 
 -- the processor is the token's
@@ -27,7 +28,7 @@ returns-in-Some-cause_of_wish-clause-asks c =
       by = c.asker-by.result;
       asker = asked-by c.args.self.now c.number.result (processor_of c.args.token.now) wish c.asker-by.result (ap (λ (n : ℕ). record { 0 = n }) c.number.ensures) c.asker-by.ensures;
       asks = skip-asks c.args.resources.now.table.now.terms.lends (home_cell c.args.self.now.start.around) old (guest_of skip.new.self) (processor_of c.args.token.now) c.asker-by.result wish (cause_of cause) skip.result skip.ensures.answer
-          (sym (c.in-Some-cause_of_wish.ensures c.args.token.now.number)) skip.ensures.skips;
+          (ap (λ (n : ℕ). first_cause (state_of c.args.self.now.course) n wish) (sym c.number-2.ensures) ∙ sym c.in-Some-cause_of_wish.ensures) skip.ensures.skips;
       leaves = skip.ensures.leaves;
       acts = skip.ensures.acts;
     }

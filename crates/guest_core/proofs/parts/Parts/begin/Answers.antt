@@ -208,7 +208,7 @@ returns-clause-asks c =
         same = record { number = refl; start = refl; disk = refl; board = ap (λ (x : Seat). x.board) c.note_ask.ensures.seat; table = c.change_for-taken.ensures.same; wires = refl; own = refl };
         handed = handed-same old.course c.begin.new.self e.packets.hand;
         room = less-room _ _ _ _ _ _ (omega (arith, loads, opens, c.push.ensures.room))
-            (calls-less old.course c.begin.new.self (no-less _ _ e.print_room) (no-less _ _ e.send_room) (no-less _ _ (rw e.cells refl)) (no-less _ _ (rw e.packets.received refl)) (omega (arith, e.room)) (no-less _ _ (rw e.skips refl)));
+            (calls-less old.course c.begin.new.self (no-less _ _ e.print_room) (no-less _ _ e.send_room) (no-less _ _ (rw e.cells refl)) (no-less _ _ (rw e.packets.received refl)) (no-less _ _ (rw e.packets.discarded refl)) (omega (arith, e.room)) (no-less _ _ (rw e.skips refl)));
       };
       acts = acts-begun s t wish.kind wish.node.0 by token.number (wanting wish) row;
     }

@@ -68,6 +68,7 @@ returns-clause-leaves c =
       send_room = omega (arith, e.send_room);
       cells = no-more _ _ e.cells;
       received = no-more _ _ e.packets.received;
+      discarded = no-more _ _ e.packets.discarded;
       begins = e.room;
       skips = no-more _ _ e.skips;
     } in

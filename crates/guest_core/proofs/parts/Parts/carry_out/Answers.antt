@@ -1,18 +1,13 @@
 -- The step is its row, and the guest is kept with what it sent on its wire.
 use Rattle.std.proofs.Common.{◌≡◌, inl, ℕ, false, ◌+◌, ◌<◌, ◌≤◌, ◌++◌, [], ◌∷◌, List, Option, option_map, length, map, refl, sym, ap, ◌∙◌, subst, arith}
-use Rattle.std.specs.Prelude.{IfSome}
 use Rattle.std.specs.Global.{Vec}
-use Rattle.base_words.specs.declared.ids.CellId.{CellId}
 use Rattle.base_words.specs.declared.events.Event.{Event}
 use Rattle.base_words.specs.declared.events.Event.TheVariants.{Emulate}
 use Rattle.base_words.specs.declared.ids.ProcId.{ProcId}
 use Rattle.shootdown.specs.declared.notes.Note.TheVariants.{Made}
-use Rattle.shootdown.specs.declared.view.SidedNote.{SidedNote}
 use Rattle.shootdown.specs.Notes.{Seat, Token, sided}
-use Rattle.base_words.specs.Membership.{Has}
-use Rattle.private_machine.specs.Backing.{Copy, copies}
 use Rattle.isolation_law.specs.CellUse.{held}
-use Rattle.isolation_law.specs.GuestState.{GuestState, page}
+use Rattle.isolation_law.specs.GuestState.{page}
 use Rattle.isolation_law.specs.StepRows.{Emulates, IsEmulated}
 use Rattle.isolation_law.specs.Surroundings.{Surroundings}
 use Rattle.isolation_law.specs.WireHistory.{sent_to}
@@ -61,6 +56,7 @@ uses a b d from print send cells takes room skips = subst (λ (x : Course). Uses
   send_room = send;
   cells = cells;
   received = no-more a.received d.received takes.received;
+  discarded = no-more a.discarded d.discarded takes.discarded;
   begins = omega (arith, room);
   skips = no-more a.skips d.skips skips;
 })

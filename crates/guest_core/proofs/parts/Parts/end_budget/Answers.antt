@@ -1,15 +1,14 @@
 -- The moves that are done are finished, then the guest ends, and it is kept.
-use Rattle.std.proofs.Common.{◌≡◌, ℕ, ◌<◌, ◌≤◌, Some, None, List, [], ◌∷◌, ◌++◌, length, map, refl, sym, ap, ◌∙◌, subst, arith, append_assoc}
+use Rattle.std.proofs.Common.{◌≡◌, ℕ, ◌≤◌, Some, None, List, [], ◌∷◌, ◌++◌, map, sym, ap, ◌∙◌, subst, arith, append_assoc}
 use Rattle.std.specs.Global.{Vec}
 use Rattle.base_words.specs.declared.ids.CellId.{CellId}
 use Rattle.base_words.specs.declared.events.Event.{Event}
 use Rattle.base_words.specs.declared.events.Event.TheVariants.{End as Ending}
 use Rattle.base_words.specs.declared.events.End.{End}
 use Rattle.base_words.specs.declared.events.End.TheVariants.{Budget}
-use Rattle.isolation_law.specs.GuestState.{GuestState}
 use Rattle.guest_course.specs.CourseView.{state_of}
 use Rattle.guest_course.specs.EndCalls.{letting_go}
-use Rattle.guest_core.specs.GuestView.{guest_of, open_count, entries_due, calls_room}
+use Rattle.guest_core.specs.GuestView.{guest_of, entries_due, calls_room}
 use Rattle.guest_core.specs.Kept.{Kept}
 use Rattle.guest_core.specs.MoveCalls.{finishing}
 use Rattle.guest_core.specs.Wiring.{Posted}
@@ -21,11 +20,6 @@ use Rattle.guest_core.proofs.parts.Parts.end_budget.Goals as goal
 
 at-least : (a b : ℕ) → 2 ≤ a → a ≤ b → 2 ≤ b
 at-least a b had more = omega (arith, had, more)
-
-pub close-requires-clause-may : goal.close-requires-clause-may
-close-requires-clause-may c =
-    let e = c.finish_all.ensures in
-    plan-done (state_of c.finish_all.new.self.course) (e.kept.goes_on e.not_ended) e.none
 
 pub close-requires-clause-room : goal.close-requires-clause-room
 close-requires-clause-room c =
@@ -49,10 +43,10 @@ returns-clause-ends c =
       ended = c.close.ensures.ended;
       devices = rw c.close.ensures.devs e.devices;
       hand = (takes-none c.finish_all.new.self.course c.close.new.course c.close.ensures.packets).hand ∙ e.hand;
-      ends = c.close.ensures.ends;
+      ends = (c.close.ensures.ends (plan-done (state_of c.finish_all.new.self.course) (c.finish_all.ensures.kept.goes_on c.finish_all.ensures.not_ended) c.finish_all.ensures.none));
       makes = record {
         journal = c.close.ensures.entries ∙ ap (λ (l : List Event). l ++ closing) e.makes.makes.journal ∙ append_assoc old.journal.entries (finishing 0 s.pages) closing;
-        run = c.run_grows.ensures.run s m t (finishing 0 s.pages) closing e.makes.makes.run c.close.ensures.ends;
+        run = c.run_grows.ensures.run s m t (finishing 0 s.pages) closing e.makes.makes.run (c.close.ensures.ends (plan-done (state_of c.finish_all.new.self.course) (c.finish_all.ensures.kept.goes_on c.finish_all.ensures.not_ended) c.finish_all.ensures.none));
       };
     }
 
@@ -64,7 +58,7 @@ returns-clause-kept c =
     let k = c.finish_all.ensures.kept in
     let w = c.laws.ensures.rows in
     let e = c.close.ensures in
-    let kept = kept-closed c.run_grows.ensures.hand w c.laws.ensures.runs mid.start s t mid.journal.entries s.pages Budget mid.seat.notes k.kept e.ends in
+    let kept = kept-closed c.run_grows.ensures.hand w c.laws.ensures.runs mid.start s t mid.journal.entries s.pages Budget mid.seat.notes k.kept (c.close.ensures.ends (plan-done (state_of c.finish_all.new.self.course) (c.finish_all.ensures.kept.goes_on c.finish_all.ensures.not_ended) c.finish_all.ensures.none)) in
     let some : 2 ≤ (guest_of mid).room = at-least _ _ c.requires.room c.finish_all.ensures.room in
     let room = two-entries mid.journal.room (entries_due s) (calls_room mid.course) some in
     record {

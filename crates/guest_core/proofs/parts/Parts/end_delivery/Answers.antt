@@ -1,11 +1,11 @@
 -- The packet is received, and the guest is kept: the frames that its page dropped are given back and counted no more.
 use Rattle.std.specs.Vec.{vec_len}
-use Rattle.std.proofs.Common.{rules, ◌≡◌, inr, ◌<◌, List, [], ◌∷◌, ◌++◌, Some, None, length, refl, sym, ap, ◌∙◌, subst, arith}
+use Rattle.std.proofs.Common.{rules, ◌≡◌, inr, ◌<◌, [], ◌∷◌, ◌++◌, Some, None, length, refl, sym, ap, ◌∙◌, subst, arith}
 use Rattle.base_words.specs.declared.events.End.{End}
 use Rattle.base_words.specs.declared.events.Event.{Event}
 use Rattle.base_words.specs.declared.events.Event.TheVariants.{PacketIn}
 use Rattle.private_machine.specs.PageMove.{dropped_taken}
-use Rattle.isolation_law.specs.GuestState.{GuestState, page}
+use Rattle.isolation_law.specs.GuestState.{page}
 use Rattle.isolation_law.specs.Surroundings.{Surroundings}
 use Rattle.guest_course.specs.CourseView.{state_of}
 use Rattle.guest_core.specs.Holding.{FitsAround}
@@ -83,6 +83,7 @@ returns-clause-leaves c =
       send_room = omega (arith, e.send_room);
       cells = no-more _ _ e.cells;
       received = e.place_room;
+      discarded = no-more _ _ e.discarded;
       begins = omega (arith, e.room);
       skips = no-more _ _ e.skips;
     } in

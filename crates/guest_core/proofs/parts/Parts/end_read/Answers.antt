@@ -1,15 +1,10 @@
 -- The read is its row, and the guest is kept: the frames that its page dropped are given back and counted no more.
-use Rattle.std.proofs.Common.{◌≡◌, inr, ℕ, false, ◌<◌, ◌++◌, [], ◌∷◌, List, Option, Some, None, length, map, refl, sym, ap, ◌∙◌, subst, arith}
-use Rattle.std.specs.Global.{Vec}
-use Rattle.base_words.specs.declared.ids.CellId.{CellId}
+use Rattle.std.proofs.Common.{◌≡◌, inr, ℕ, false, ◌<◌, ◌++◌, [], ◌∷◌, List, Some, None, length, refl, sym, ap, ◌∙◌, subst, arith}
 use Rattle.base_words.specs.declared.events.Event.{Event}
 use Rattle.base_words.specs.declared.events.Event.TheVariants.{Emulate}
 use Rattle.base_words.specs.declared.ids.ProcId.{ProcId}
 use Rattle.shootdown.specs.declared.notes.Note.TheVariants.{Made}
-use Rattle.shootdown.specs.declared.view.SidedNote.{SidedNote}
 use Rattle.shootdown.specs.Notes.{Seat, Token, sided}
-use Rattle.base_words.specs.declared.events.End.{End}
-use Rattle.private_machine.specs.Backing.{Copy, Move}
 use Rattle.private_machine.specs.DeviceAct.{ReadsDisk}
 use Rattle.private_machine.specs.PageMove.{dropped_taken}
 use Rattle.isolation_law.specs.Exchange.{Exchanged}
@@ -143,6 +138,7 @@ returns-clause-leaves c =
       send_room = e.send_room;
       cells = e.cell_room;
       received = no-more _ _ e.packets.received;
+      discarded = no-more _ _ e.packets.discarded;
       begins = omega (arith, e.room);
       skips = no-more _ _ e.skips;
     } in

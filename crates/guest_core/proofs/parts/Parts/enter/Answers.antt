@@ -69,7 +69,7 @@ returns-in-Direct-clause-leaves g c =
     let did : StepsDirect s q.0 v.0 m c.in-Direct.access = subst (λ (n : ℕ). StepsDirect s n v.0 m c.in-Direct.access) c.number-processor.ensures c.in-Direct.ensures.executes in
     let due = direct-due c.laws.ensures.rows c.laws.ensures.moves s m q v did.row in
     let done = c.step.ensures in
-    let keeps : KeepsCalls old.course c.step.new.self = record { print_room = done.print_room; send_room = done.send_room; cells = done.cells; received = done.packets.received; begins = omega (arith, done.room); skips = done.skips } in
+    let keeps : KeepsCalls old.course c.step.new.self = record { print_room = done.print_room; send_room = done.send_room; cells = done.cells; received = done.packets.received; discarded = done.packets.discarded; begins = omega (arith, done.room); skips = done.skips } in
     record {
       learns = record {
         seat = ap (λ (x : Seat). x.notes) c.note.ensures.seat ∙ ap (λ (p : ProcId). old.seat.notes ++ sided token.number (Made (Direct p v)) ∷ []) same;

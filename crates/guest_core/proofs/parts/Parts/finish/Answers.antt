@@ -85,7 +85,7 @@ returns-clause-room c =
     let before = c.args.self.now.course in
     let after = c.finish_move-freed.new.self in
     let done = c.finish_move-freed.ensures in
-    let keeps : KeepsCalls before after = record { print_room = done.print_room; send_room = done.send_room; cells = done.cells; received = done.packets.received; begins = done.room; skips = done.skips } in
+    let keeps : KeepsCalls before after = record { print_room = done.print_room; send_room = done.send_room; cells = done.cells; received = done.packets.received; discarded = done.packets.discarded; begins = done.room; skips = done.skips } in
     room-kept _ _ before after keeps (omega (arith, finish-due c.laws.ensures.rows c.laws.ensures.moves (state_of before) (state_of after) c.args.page done.finishes, c.push.ensures.room))
 
 pub returns-clause-hand : goal.returns-clause-hand

@@ -2,7 +2,7 @@
 use Rattle.std.proofs.Common.{rules, ℕ, ◌<◌, Some, List, [], ◌∷◌, ◌++◌, refl, sym, ap, ◌∙◌, subst, arith}
 use Rattle.base_words.specs.declared.events.Event.{Event}
 use Rattle.base_words.specs.declared.events.Event.TheVariants.{Load}
-use Rattle.shootdown.specs.declared.notes.Note.TheVariants.{Made, Ended}
+use Rattle.shootdown.specs.declared.notes.Note.TheVariants.{Made, Ended, Dead}
 use Rattle.shootdown.specs.declared.view.SidedNote.{SidedNote}
 use Rattle.shootdown.specs.Notes.{Seat, sided}
 use Rattle.isolation_law.specs.GuestState.{GuestState}
@@ -14,6 +14,8 @@ use Rattle.guest_core.proofs.EnterProofs.{handed-same, noted-kept}
 use Rattle.guest_core.proofs.RoomLemmas.{two-entries, KeepsCalls, as-used, room-used}
 use Rattle.guest_core.specs.Wiring.{Posted}
 use Rattle.guest_core.proofs.WiringProofs.{posted-same, quiet-one, quiet-load}
+use Rattle.guest_core.proofs.FailLemmas.{on-outlives}
+use Rattle.isolation_law.specs.Phases.{GoesOn}
 use Rattle.guest_core.proofs.parts.Parts.load_vcpu.Goals as goal
 
 pub returns-in-Some-clause-kept : goal.returns-in-Some-clause-kept
@@ -25,6 +27,17 @@ returns-in-Some-clause-kept c =
     let n : SidedNote = sided c.args.token.now.number (Ended c.in-Some.end) in
     let kept = kept-answer c.laws.ensures.runs old.start s old.journal.entries old.seat.notes n k.kept (subst (λ (n : ℕ). c.args.token.now.number < n) (sym k.kept.processors) c.requires.may.notes.is_processor) tt (is, λ same. c.requires.may.before (is ∙ ap Some same)) in
     noted-kept old c.note.new.seat n k c.note.ensures.seat kept
+
+pub returns-then-is_dead-clause-kept : goal.returns-then-is_dead-clause-kept
+returns-then-is_dead-clause-kept c =
+    let old = c.args.self.now in
+    let s = state_of old.course in
+    let k = c.requires.kept in
+    let cell = c.cell_of-cell.result in
+    let n : SidedNote = sided c.args.token.now.number (Dead cell) in
+    let on : GoesOn s = k.goes_on c.in_default.is in
+    let kept = kept-answer c.laws.ensures.runs old.start s old.journal.entries old.seat.notes n k.kept (subst (λ (n : ℕ). c.args.token.now.number < n) (sym k.kept.processors) c.requires.may.notes.is_processor) tt (on-outlives s cell.0 on (sym c.is_dead.ensures ∙ c.if-is_dead.true)) in
+    noted-kept old c.note-then-is_dead.new.seat n k c.note-then-is_dead.ensures.seat kept
 
 pub returns-clause-kept : goal.returns-clause-kept
 returns-clause-kept c =
@@ -65,7 +78,7 @@ returns-clause-leaves c =
     let p = c.number-processor.result in
     let done = c.load.ensures in
     let due = load-due c.laws.ensures.rows c.laws.ensures.moves (state_of before) (state_of after) p c.args.vcpu done.loads in
-    let keeps : KeepsCalls before after = record { print_room = done.print_room; send_room = done.send_room; cells = done.cells; received = done.packets.received; begins = omega (arith, done.room); skips = done.skips } in
+    let keeps : KeepsCalls before after = record { print_room = done.print_room; send_room = done.send_room; cells = done.cells; received = done.packets.received; discarded = done.packets.discarded; begins = omega (arith, done.room); skips = done.skips } in
     record {
       learns = record { seat = search rules; token_is = search rules };
       same = record { number = refl; start = refl; disk = refl; board = ap (λ (x : Seat). x.board) c.note-2.ensures.seat; table = refl; wires = refl; own = refl };

@@ -24,6 +24,7 @@ returns-in-Finished-clause-takes c =
         goes_on = run-end (state_of c.args.self.now.course) (state_of c.finish_ready.new.self.course) c.args.page done.makes.makes.run ∙ c.requires.armed.not_ended;
         armed = c.requires.page;
         in_hand = λ none. c.requires.in_hand (sym c.finish_ready.ensures.hand ∙ none);
+        lives = λ packet is. c.requires.lives packet (sym c.finish_ready.ensures.hand ∙ is);
         hands_on = inl (c.requires.in_hand, c.finish_ready.ensures.handed);
         notes = ap (λ (x : _). x.notes) c.finish_ready.ensures.notes;
       };
@@ -42,6 +43,7 @@ returns-in-Waits-clause-takes c =
         goes_on = ap (λ (s : GuestState). s.end) stays.state ∙ c.requires.armed.not_ended;
         armed = c.requires.page;
         in_hand = λ none. c.requires.in_hand (sym c.finish_ready.ensures.hand ∙ none);
+        lives = λ packet is. c.requires.lives packet (sym c.finish_ready.ensures.hand ∙ is);
         hands_on = inl (c.requires.in_hand, c.finish_ready.ensures.handed);
         notes = ap (λ (x : _). x.notes) c.finish_ready.ensures.notes;
       };

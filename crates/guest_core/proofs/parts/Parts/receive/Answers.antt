@@ -59,6 +59,7 @@ returns-clause-leaves c =
       send_room = omega (arith, e.send_room);
       cells = no-more _ _ e.cells;
       received = e.place_room;
+      discarded = no-more _ _ e.discarded;
       begins = omega (arith, e.room);
       skips = no-more _ _ e.skips;
     } in

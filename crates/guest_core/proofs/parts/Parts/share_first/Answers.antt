@@ -1,5 +1,5 @@
 -- The frame that was held or found is the guest's with the move that has begun.
-use Rattle.std.proofs.Common.{rules, ◌≡◌, inr, ℕ, ◌++◌, ◌∷◌, [], List, Ok, refl, sym, ap, ◌∙◌, subst, arith}
+use Rattle.std.proofs.Common.{rules, ◌≡◌, inr, ℕ, ◌++◌, ◌∷◌, [], Ok, refl, ap, ◌∙◌, subst, arith}
 use Rattle.base_words.specs.declared.events.Event.{Event}
 use Rattle.base_words.specs.declared.events.Event.TheVariants.{Begin}
 use Rattle.base_words.specs.declared.frame.Frame.{Frame}
@@ -12,7 +12,7 @@ use Rattle.cell_depend.specs.Counters.{UsesState}
 use Rattle.frame_words.specs.declared.view.View.{View}
 use Rattle.guest_devs.specs.declared.act.DevAct.{DevAct}
 use Rattle.isolation_law.specs.GuestState.{GuestState}
-use Rattle.private_machine.specs.Backing.{Copy, Change, TakesShared, GivesShared}
+use Rattle.private_machine.specs.Backing.{Change, TakesShared, GivesShared}
 use Rattle.private_machine.specs.PageMove.{gained}
 use Rattle.pmap_table.specs.Frames.{copy_of, shared_copy_of}
 use Rattle.isolation_law.specs.Exchange.{Exchanged}
@@ -138,6 +138,7 @@ returns-in-Give-clause-quiet c =
       send_room = omega (arith, e.send_room);
       cells = no-more _ _ e.cells;
       received = no-more _ _ e.packets.received;
+      discarded = no-more _ _ e.packets.discarded;
       begins = omega (arith, e.room);
       skips = no-more _ _ e.skips;
     } in
@@ -147,4 +148,26 @@ returns-in-Give-clause-quiet c =
       handed = handed-same old.course d e.packets.hand;
       room = room-used _ _ old.course d uses
           (omega (arith, begin-due c.laws.ensures.rows c.laws.ensures.moves (state_of old.course) (state_of d) c.in-Give.page GiveShared (record { 0 = (state_of old.course).around.home }) (Step c.args.processor) e.begins, c.push-in-Give.ensures.room));
+    }
+
+pub returns-in-Take-clause-quiet : goal.returns-in-Take-clause-quiet
+returns-in-Take-clause-quiet c =
+    let old = c.args.self.now in
+    let d = c.begin_for_block.new.self in
+    let e = c.begin_for_block.ensures in
+    let uses : UsesCall old.course d = record {
+      print_room = omega (arith, e.print_room);
+      send_room = omega (arith, e.send_room);
+      cells = no-more _ _ e.cells;
+      received = no-more _ _ e.packets.received;
+      discarded = no-more _ _ e.packets.discarded;
+      begins = omega (arith, e.room);
+      skips = no-more _ _ e.skips;
+    } in
+    record {
+      notes = refl;
+      same = record { number = refl; start = refl; disk = refl; board = refl; table = c.in_ok-sharing.ensures.same; wires = refl; own = refl };
+      handed = handed-same old.course d e.packets.hand;
+      room = room-used _ _ old.course d uses
+          (omega (arith, begin-due c.laws.ensures.rows c.laws.ensures.moves (state_of old.course) (state_of d) c.in-Take.page TakeShared (record { 0 = (state_of old.course).around.home }) (Step c.args.processor) e.begins, c.push.ensures.room));
     }

@@ -1,6 +1,6 @@
 -- The frame that the packet hands on lies at home, and is the guest's with the move that has begun.
 use Rattle.std.specs.Option.{option_and_then}
-use Rattle.std.proofs.Common.{◌≡◌, ◌++◌, ◌∷◌, [], List, Option, Some, option_map, refl, sym, ap, ◌∙◌, subst, arith}
+use Rattle.std.proofs.Common.{◌≡◌, ◌++◌, ◌∷◌, [], Option, Some, option_map, refl, ap, ◌∙◌, subst, arith}
 use Rattle.std.specs.Prelude.{IfSome}
 use Rattle.base_words.specs.declared.events.Event.{Event}
 use Rattle.base_words.specs.declared.events.Event.TheVariants.{Begin}
@@ -12,7 +12,7 @@ use Rattle.private_machine.specs.Backing.{Change, TakesShared}
 use Rattle.private_machine.specs.PageMove.{gained}
 use Rattle.pmap_table.specs.Frames.{shared_copy_of}
 use Rattle.isolation_law.specs.Exchange.{Exchanged}
-use Rattle.isolation_law.specs.GuestState.{GuestState}
+use Rattle.isolation_law.specs.GuestState.{is_dead}
 use Rattle.isolation_law.specs.Surroundings.{Surroundings}
 use Rattle.isolation_law.specs.UseChange.{UseChanged}
 use Rattle.wire_queue.specs.Packets.{packet_of}
@@ -52,6 +52,13 @@ pub hold_too-held-requires-clause-at_home : goal.hold_too-held-requires-clause-a
 hold_too-held-requires-clause-at_home c =
     let course = c.args.self.now.course in
     (at-home course c.in-Some.target c.in-Some.delivery c.requires.kept.sound.in_hand (found course c.in_ok-target.field-0 (c.in-Some.target, c.in-Some.delivery) c.in-Some.is c.in_ok-target.ensures.some)).home
+
+pub begin_for_delivery-requires-clause-target : goal.begin_for_delivery-requires-clause-target
+begin_for_delivery-requires-clause-target c =
+    let course = c.args.self.now.course in
+    let hands = found course c.in_ok-target.field-0 (c.in-Some.target, c.in-Some.delivery) c.in-Some.is c.in_ok-target.ensures.some in
+    let home = at-home course c.in-Some.target c.in-Some.delivery c.requires.kept.sound.in_hand hands in
+    ap (is_dead (state_of course)) home.lies ∙ c.requires.lives (hand_of hands.packet) (ap (option_map hand_of) hands.in_hand)
 
 pub returns-clause-kept : goal.returns-clause-kept
 returns-clause-kept c =
@@ -114,6 +121,7 @@ returns-clause-leaves c =
       send_room = omega (arith, e.send_room);
       cells = no-more _ _ e.cells;
       received = no-more _ _ e.packets.received;
+      discarded = no-more _ _ e.packets.discarded;
       begins = omega (arith, e.room);
       skips = no-more _ _ e.skips;
     } in

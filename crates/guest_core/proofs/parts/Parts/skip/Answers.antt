@@ -125,7 +125,7 @@ returns-clause-leaves c =
       same = record { number = refl; start = refl; disk = refl; board = ap (λ (x : Seat). x.board) c.note_ask.ensures.seat; table = refl; wires = refl; own = refl };
       handed = handed-same old.course c.skip.new.self e.packets.hand;
       room = less-room _ _ _ _ _ _ (omega (arith, loads, open-same, c.push.ensures.room))
-          (calls-less old.course c.skip.new.self (no-less _ _ e.print_room) (no-less _ _ e.send_room) (no-less _ _ (rw e.cells refl)) (no-less _ _ (rw e.packets.received refl)) (no-less _ _ (ap (λ (m : PageMap). m.room) e.pages)) e.place_room);
+          (calls-less old.course c.skip.new.self (no-less _ _ e.print_room) (no-less _ _ e.send_room) (no-less _ _ (rw e.cells refl)) (no-less _ _ (rw e.packets.received refl)) (no-less _ _ (rw e.packets.discarded refl)) (no-less _ _ (ap (λ (m : PageMap). m.room) e.pages)) e.place_room);
     }
 
 pub returns-clause-acts : goal.returns-clause-acts

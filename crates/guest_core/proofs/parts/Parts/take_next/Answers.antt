@@ -1,5 +1,5 @@
 -- A packet comes to hand, and then what is in hand is taken in.
-use Rattle.std.proofs.Common.{◌≡◌, ◌≢◌, ⊎_elim, true, false, Option, Some, None, is_some, option_map, refl, sym, ap, ◌∙◌}
+use Rattle.std.proofs.Common.{◌≡◌, ◌≢◌, ⊎_elim, true, false, Option, Some, None, is_some, option_map, refl, sym, ap, ◌∙◌, Ok, subst, ℕ}
 use Rattle.private_machine.specs.Operation.{Packet}
 use Rattle.isolation_law.specs.GuestState.{GuestState}
 use Rattle.isolation_law.specs.PacketRows.{ComesToHand}
@@ -8,7 +8,10 @@ use Rattle.wire_queue.specs.declared.packet.WirePacket.{WirePacket}
 use Rattle.guest_course.specs.CourseView.{hand_of, state_of}
 use Rattle.guest_core.proofs.EnterProofs.{none-handed}
 use Rattle.guest_core.specs.GuestView.{guest_of}
-use Rattle.guest_core.proofs.PacketLemmas.{then-takes}
+use Rattle.guest_core.proofs.PacketLemmas.{then-takes, armed-then, takes-err, then-same}
+use Rattle.guest_core.specs.declared.answers.Packeted.TheVariants as packeted
+use Rattle.guest_core.proofs.HandedLemmas.{keeps-all}
+use Rattle.guest_core.specs.PacketCalls.{KeepsInHand, DiscardsNext}
 use Rattle.guest_core.proofs.parts.Parts.take_next.Goals as goal
 
 -- an option that has something, seen otherwise, has something
@@ -59,3 +62,28 @@ returns-then-is_none-clause-takes g c =
       handed = none-handed new.course empty ∙ sym (none-handed old.course none);
       notes = f.quiet.notes;
     }
+
+pub take_in-requires-clause-in_hand : goal.take_in-requires-clause-in_hand
+take_in-requires-clause-in_hand g c = is-in-hand c.fetch.new.self.course.hand c.if-is_none.ensures
+
+-- ---- the packet is lost
+
+pub returns-in-Some-clause-takes : goal.returns-in-Some-clause-takes
+returns-in-Some-clause-takes g c =
+    let full = is-in-hand c.fetch.new.self.course.hand c.if-is_none.ensures in
+    let lost = c.in-Some.ensures.some in
+    then-takes (guest_of c.args.self.now) (guest_of c.fetch.new.self) (guest_of c.discard.new.self) (Ok (packeted.Discarded c.in-Some.cell)) c.requires.armed c.fetch.ensures.fetches full c.discard.ensures.leaves.passes (subst (λ (n : ℕ). DiscardsNext (guest_of c.fetch.new.self) n (guest_of c.discard.new.self)) (sym lost.1) (c.in_ok-discard.ensures.discarded lost.0))
+
+pub returns-in-Some-clause-same : goal.returns-in-Some-clause-same
+returns-in-Some-clause-same g c = then-same (guest_of c.args.self.now) (guest_of c.fetch.new.self) (guest_of c.discard.new.self) c.fetch.ensures.same c.discard.ensures.leaves.same
+
+pub returns-in_err-discard-clause-takes : goal.returns-in_err-discard-clause-takes
+returns-in_err-discard-clause-takes g c =
+    let old = guest_of c.args.self.now in
+    let mid = guest_of c.fetch.new.self in
+    let full = is-in-hand c.fetch.new.self.course.hand c.if-is_none.ensures in
+    let kept : KeepsInHand mid (guest_of c.discard.new.self) = keeps-all mid (guest_of c.discard.new.self) (armed-then old mid c.fetch.ensures.fetches c.requires.armed) full (ap guest_of c.in_err-discard.ensures.unchanged) in
+    then-takes old mid (guest_of c.discard.new.self) c.from_residual.result c.requires.armed c.fetch.ensures.fetches full c.discard.ensures.leaves.passes (takes-err mid (guest_of c.discard.new.self) c.from_residual.result c.from_residual.ensures.0 kept)
+
+pub returns-in_err-discard-clause-same : goal.returns-in_err-discard-clause-same
+returns-in_err-discard-clause-same g c = then-same (guest_of c.args.self.now) (guest_of c.fetch.new.self) (guest_of c.discard.new.self) c.fetch.ensures.same c.discard.ensures.leaves.same

@@ -1,17 +1,13 @@
 -- The entry that is made for a trap is its row, and the guest is kept.
-use Rattle.std.proofs.Common.{◌≡◌, inl, inr, ℕ, ◌+◌, ◌<◌, ◌≤◌, ◌++◌, [], ◌∷◌, if◌then◌else◌, Bool, true, false, List, Ok, Some, None, length, map, refl, sym, ap, ◌∙◌, subst, arith}
+use Rattle.std.proofs.Common.{◌≡◌, inl, ℕ, ◌+◌, ◌<◌, ◌++◌, [], ◌∷◌, if◌then◌else◌, Bool, true, false, List, Ok, Some, None, length, map, refl, sym, ap, ◌∙◌, subst, arith}
 use Rattle.std.specs.Global.{Vec}
 use Rattle.base_words.specs.declared.ids.CellId.{CellId}
 use Rattle.base_words.specs.declared.events.Event.{Event}
 use Rattle.base_words.specs.declared.events.Event.TheVariants.{Refill, Emulate}
 use Rattle.base_words.specs.declared.ids.ProcId.{ProcId}
-use Rattle.base_words.specs.declared.moves.MoveKind.{MoveKind}
-use Rattle.base_words.specs.declared.moves.MoveKind.TheVariants.{Break, Collapse}
-use Rattle.private_machine.specs.Backing.{Page}
 use Rattle.private_machine.specs.DeviceAct.{StoresTo}
 use Rattle.shootdown.specs.declared.notes.Note.{Note}
 use Rattle.shootdown.specs.declared.notes.Note.TheVariants.{Made}
-use Rattle.shootdown.specs.declared.view.SidedNote.{SidedNote}
 use Rattle.shootdown.specs.Notes.{Seat, Token, sided}
 use Rattle.isolation_law.specs.GuestState.{GuestState, page}
 use Rattle.base_words.specs.declared.events.End.TheVariants.{Halted as ByHalt}
@@ -19,14 +15,13 @@ use Rattle.isolation_law.specs.Phases.{all_halted, GoesOn}
 use Rattle.isolation_law.specs.RefillRow.{Refills}
 use Rattle.isolation_law.specs.StepRows.{Emulates}
 use Rattle.isolation_law.specs.Surroundings.{Surroundings}
-use Rattle.guest_course.specs.Acting.{page_used}
 use Rattle.guest_course.specs.CourseView.{state_of}
 use Rattle.guest_course.specs.RefillCalls.{StaysNeeding}
 use Rattle.guest_course.specs.declared.course.Course.{Course}
 use Rattle.isolation_law.specs.StepAct.{at_hand}
 use Rattle.guest_core.specs.MoveCalls.{MeetsPage}
 use Rattle.guest_core.specs.GuestCalls.{end_of, processor_of, step_entries, told_of_turn, Leaves, TurnAnswers}
-use Rattle.guest_core.specs.GuestView.{entries_due, guest_of, shared_by}
+use Rattle.guest_core.specs.GuestView.{guest_of, shared_by}
 use Rattle.guest_core.specs.Holding.{FitsAround}
 use Rattle.guest_core.specs.Making.{Makes}
 use Rattle.guest_core.specs.TurnParts.{BeginsFor, Concludes, Quietly}
@@ -37,7 +32,7 @@ use Rattle.guest_core.proofs.HoldingLemmas.{frames-stay}
 use Rattle.guest_core.proofs.KeptProofs.{emulate-due, emulate-end, refill-due}
 use Rattle.guest_core.proofs.LettingLemmas.{letting-open, quiet-step}
 use Rattle.guest_core.proofs.MoveLemmas.{needs-kind}
-use Rattle.guest_core.proofs.RoomLemmas.{UsesCall, KeepsCalls, as-used, no-more, room-used, two-entries}
+use Rattle.guest_core.proofs.RoomLemmas.{UsesCall, no-more, room-used, two-entries}
 use Rattle.guest_core.proofs.UsingProofs.{uses-row}
 use Rattle.guest_core.proofs.WiringProofs.{packets-then, posted-same, posts-none, quiet-one, same-ends, takes-none}
 use Rattle.guest_core.proofs.parts.Parts.trapped.Goals as goal
@@ -102,7 +97,7 @@ returns-in-Refill-clause-leaves g c =
     let e = c.in-Refill.ensures in
     let did : Refills s token.number m = subst (λ (n : ℕ). Refills s n m) c.number-processor.ensures e.enters in
     let due = refill-due c.laws.ensures.rows c.laws.ensures.moves s m (processor_of token) did in
-    let uses : UsesCall old.course d = record { print_room = e.print_room; send_room = omega (arith, e.send_room); cells = no-more _ _ e.cells; received = no-more _ _ e.packets.received; begins = omega (arith, e.room); skips = no-more _ _ e.skips } in
+    let uses : UsesCall old.course d = record { print_room = e.print_room; send_room = omega (arith, e.send_room); cells = no-more _ _ e.cells; received = no-more _ _ e.packets.received; discarded = no-more _ _ e.packets.discarded; begins = omega (arith, e.room); skips = no-more _ _ e.skips } in
     record {
       learns = learns-none (guest_of old) _ token refl;
       same = record { number = refl; start = refl; disk = refl; board = refl; table = refl; wires = refl; own = refl };
@@ -264,6 +259,7 @@ returns-in-Emulate-clause-leaves g c =
       send_room = rw x.devs (omega (arith, e.send_room));
       cells = no-more _ _ (x.cells ∙ e.cells);
       received = no-more _ _ packets.received;
+      discarded = no-more _ _ packets.discarded;
       begins = omega (arith, x.begins, e.room);
       skips = no-more _ _ (x.skips ∙ e.skips);
     } in

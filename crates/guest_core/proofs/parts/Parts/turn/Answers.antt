@@ -61,3 +61,13 @@ returns-clause-turns g c = subst (λ (v : VcpuId). Turns (shared_by c.args.resou
 
 pub returns-clause-leaves : goal.returns-clause-leaves
 returns-clause-leaves g c = subst (λ (v : VcpuId). Leaves (guest_of c.args.self.now) c.args.token.now (told_of_turn (processor_of c.args.token.now) v c.enter.result) (guest_of c.enter.new.self) c.enter.new.token) (loaded-is g c) c.enter.ensures.leaves
+
+pub enter-requires-clause-runs : goal.enter-requires-clause-runs
+enter-requires-clause-runs g c =
+    let s = state_of c.args.self.now.course in
+    let v = c.in-Some-loaded.vcpu in
+    let there : v.0 < length s.vcpus = c.requires.kept.sound.loaded c.number-2.result.0 v.0 (sym c.in-Some-loaded.ensures) in
+    record {
+      not_ended = c.in_default.is;
+      running = ap (λ (x : Vcpu). x.halted) (get_or_default s.vcpus v.0 no_vcpu c.index.result.now there ∙ sym c.index.ensures) ∙ c.if-index.false;
+    }

@@ -61,7 +61,7 @@ returns-clause-room c =
     let k = c.requires.kept in
     let p = c.number-processor.result in
     let due = unload-due c.laws.ensures.rows c.laws.ensures.moves (state_of before) (state_of after) p done.unloads (subst (λ (n : ℕ). p.0 < n) (sym k.kept.processors) (rw c.number-processor.ensures c.requires.may.notes.is_processor)) in
-    let keeps : KeepsCalls before after = record { print_room = done.print_room; send_room = done.send_room; cells = done.cells; received = done.packets.received; begins = omega (arith, done.room); skips = done.skips } in
+    let keeps : KeepsCalls before after = record { print_room = done.print_room; send_room = done.send_room; cells = done.cells; received = done.packets.received; discarded = done.packets.discarded; begins = omega (arith, done.room); skips = done.skips } in
     room-kept _ _ before after keeps (omega (arith, due, c.push.ensures.room))
 
 pub returns-clause-leaves : goal.returns-clause-leaves

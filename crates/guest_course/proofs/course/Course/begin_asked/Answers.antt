@@ -1,17 +1,16 @@
 -- The begin is its row, whoever asks, and the guest is as sound as before.
-use Rattle.std.proofs.Common.{◌≡◌, None, length, replicate, refl, sym, ap, ◌∙◌}
+use Rattle.std.proofs.Common.{◌≡◌, None, refl, sym, ap, ◌∙◌}
 use Rattle.base_words.specs.declared.events.Event.TheVariants.{Begin}
 use Rattle.base_words.specs.declared.moves.By.{By}
 use Rattle.private_machine.specs.Backing.{Breaks, Collapses}
 use Rattle.pmap_table.specs.Frames.{copy_of}
 use Rattle.isolation_law.specs.GuestState.{GuestState, processor}
 use Rattle.isolation_law.specs.MoveRows.{Asks, Begins, with_begun}
-use Rattle.isolation_law.specs.Surroundings.{cell_of_frame}
 use Rattle.guest_course.specs.CourseView.{state_of}
 use Rattle.guest_course.specs.MoveCalls.{home_wish}
-use Rattle.guest_course.proofs.DirectRow.{none-dead}
 use Rattle.guest_course.proofs.NeededProofs.{begins-asked, is-break, is-collapse, is-there, takes-last, rebacked-spared}
-use Rattle.guest_course.proofs.RebackLemmas.{sound-rebacked}
+use Rattle.guest_course.proofs.RebackLemmas.{sound-rebacked, well, is-well}
+use Rattle.guest_course.proofs.LiveLemmas.{last-used}
 use Rattle.guest_course.proofs.course.Course.begin_asked.Goals as goal
 
 -- a break of a shared page, with the last spare
@@ -32,7 +31,7 @@ break-row c by asked =
     let copy = copy_of c.take_spare-spare.result in
     begins-asked s (state_of c.open.new.self) by q c.args.kind (Breaks copy) c.take_spare-spare.new.self.spares c.requires.goes_on n (is-there s q c.args.kind n.needs)
     (is-break s q c.args.kind n.needs (sym c.is_shared.ensures ∙ c.if-is_shared.true)) (takes-last s.spares c.take_spare-spare.new.self.spares copy c.take_spare-spare.ensures.last)
-    (none-dead (cell_of_frame s.around copy.frame)) (broken c) asked
+    (c.goes_on_alive.ensures.used s copy (c.requires.sound.going c.requires.goes_on.not_ended).live c.requires.goes_on (last-used s c.take_spare-spare.new.self.spares copy c.take_spare-spare.ensures.last)) (broken c) asked
 
 pub returns-then-is_shared-clause-begins : goal.returns-then-is_shared-clause-begins
 unfolding break-row
@@ -47,7 +46,7 @@ returns-then-is_shared-clause-sound c =
     let by = c.requires.asked.0 in
     sound-rebacked old new sound (rebacked-spared old (record old { pmap = c.take_spare-spare.new.self }) new refl c.take_spare-spare.ensures.pages c.open.ensures.rebacked)
     (λ r u is. sound.loaded r u (sym (ap (λ (s : GuestState). (processor s r).loaded) (broken c)) ∙ is))
-    (λ on. c.row_keeps.ensures.coherent (state_of old) (state_of new) (Begin c.args.page c.args.kind old.around.home by) (sound.going c.requires.goes_on.not_ended).coherent (break-row c by c.requires.asked.1) on)
+    (λ on. well c.row_keeps.ensures.coherent c.row_keeps.ensures.uses_live (state_of old) (state_of new) (Begin c.args.page c.args.kind old.around.home by) (is-well (sound.going c.requires.goes_on.not_ended)) (break-row c by c.requires.asked.1) on)
 
 -- a collapse of a page with replicas
 collapse-row : (c : goal.After-open-else-is_shared) (by : By) → Asks (state_of c.args.self.now) by (home_wish (state_of c.args.self.now) c.args.page.0 c.args.kind) None
@@ -72,4 +71,4 @@ returns-else-is_shared-clause-sound c =
     let by = c.requires.asked.0 in
     sound-rebacked old new sound c.open-else-is_shared.ensures.rebacked
     (λ r u is. sound.loaded r u (sym (ap (λ (s : GuestState). (processor s r).loaded) c.open-else-is_shared.ensures.opened) ∙ is))
-    (λ on. c.row_keeps.ensures.coherent (state_of old) (state_of new) (Begin c.args.page c.args.kind old.around.home by) (sound.going c.requires.goes_on.not_ended).coherent (collapse-row c by c.requires.asked.1) on)
+    (λ on. well c.row_keeps.ensures.coherent c.row_keeps.ensures.uses_live (state_of old) (state_of new) (Begin c.args.page c.args.kind old.around.home by) (is-well (sound.going c.requires.goes_on.not_ended)) (collapse-row c by c.requires.asked.1) on)

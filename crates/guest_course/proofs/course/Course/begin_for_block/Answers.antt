@@ -1,9 +1,7 @@
 -- The disk read at hand asks for it.
 use Rattle.std.proofs.Common.{◌∙◌}
 use Rattle.base_words.specs.declared.moves.By.TheVariants.{Step}
-use Rattle.isolation_law.specs.Surroundings.{cell_of_frame}
 use Rattle.guest_course.specs.CourseView.{state_of}
-use Rattle.guest_course.proofs.DirectRow.{none-dead}
 use Rattle.guest_course.proofs.NeededProofs.{block-asks}
 use Rattle.guest_course.proofs.course.Course.begin_for_block.Goals as goal
 
@@ -15,7 +13,7 @@ begin_taking-requires-clause-may c =
       is_page = c.requires.page;
       rests = c.requires.rests;
       bytes = c.requires.bytes;
-      lives = none-dead (cell_of_frame s.around c.args.target.number.0);
+      lives = c.requires.lives;
     }
 
 pub begin_taking-requires-clause-asked : goal.begin_taking-requires-clause-asked

@@ -1,13 +1,11 @@
 -- The packet in hand asks for it.
-use Rattle.std.proofs.Common.{Some, option_map, refl, sym, ap, ◌∙◌, subst}
+use Rattle.std.proofs.Common.{Some, option_map, sym, ap, ◌∙◌, subst}
 use Rattle.base_words.specs.declared.moves.By.TheVariants.{Packet}
 use Rattle.private_machine.specs.Operation.{Operation}
 use Rattle.base_words.specs.declared.moves.MoveKind.TheVariants.{TakeShared}
 use Rattle.isolation_law.specs.MoveRows.{Asks, bytes_for}
-use Rattle.isolation_law.specs.Surroundings.{cell_of_frame}
 use Rattle.guest_course.specs.CourseView.{hand_of, state_of}
 use Rattle.guest_course.specs.MoveCalls.{home_wish}
-use Rattle.guest_course.proofs.DirectRow.{none-dead}
 use Rattle.guest_course.proofs.NeededProofs.{delivery-asks}
 use Rattle.guest_course.proofs.course.Course.begin_for_delivery.Goals as goal
 
@@ -20,7 +18,7 @@ begin_taking-requires-clause-may c =
       is_page = (c.requires.sound.going c.requires.goes_on.not_ended).coherent.armed_page c.args.page.0 c.requires.armed;
       rests = c.requires.rests;
       bytes = hands.bytes ∙ ap (bytes_for s) (sym hands.is_for);
-      lives = none-dead (cell_of_frame s.around c.args.target.number.0);
+      lives = c.requires.target;
     }
 
 pub begin_taking-requires-clause-asked : goal.begin_taking-requires-clause-asked
@@ -29,7 +27,7 @@ begin_taking-requires-clause-asked c =
     let hands = c.requires.hands in (
       Packet,
       subst (λ (o : Operation). Asks s Packet (home_wish s c.args.page.0 TakeShared) (Some o)) (sym hands.is_for)
-          (delivery-asks s c.args.page.0 (hand_of hands.packet) (ap (option_map hand_of) hands.in_hand) c.requires.armed refl hands.whole),
+          (delivery-asks s c.args.page.0 (hand_of hands.packet) (ap (option_map hand_of) hands.in_hand) c.requires.armed c.requires.lives hands.whole),
     )
 
 pub returns-clause-begins : goal.returns-clause-begins
@@ -37,4 +35,4 @@ returns-clause-begins c =
     let s = state_of c.args.self.now in
     let hands = c.requires.hands in
     c.begin_taking.ensures.begins Packet (subst (λ (o : Operation). Asks s Packet (home_wish s c.args.page.0 TakeShared) (Some o)) (sym hands.is_for)
-    (delivery-asks s c.args.page.0 (hand_of hands.packet) (ap (option_map hand_of) hands.in_hand) c.requires.armed refl hands.whole))
+    (delivery-asks s c.args.page.0 (hand_of hands.packet) (ap (option_map hand_of) hands.in_hand) c.requires.armed c.requires.lives hands.whole))

@@ -10,7 +10,7 @@ use Rattle.isolation_law.specs.Phases.{all_halted}
 use Rattle.guest_course.specs.CourseView.{purpose, state_of}
 use Rattle.guest_course.specs.MoveCalls.{home_wish}
 use Rattle.guest_course.proofs.MoveProofs.{takes-row}
-use Rattle.guest_course.proofs.RebackLemmas.{sound-rebacked}
+use Rattle.guest_course.proofs.RebackLemmas.{sound-rebacked, well, is-well}
 use Rattle.guest_course.proofs.StepProofs.{goes-on}
 use Rattle.guest_course.proofs.course.Course.begin_taking.Goals as goal
 
@@ -34,7 +34,7 @@ returns-clause-sound c =
     let by = c.requires.asked.0 in
     sound-rebacked old new sound c.open.ensures.rebacked
     (λ r u is. sound.loaded r u (sym (ap (λ (s : GuestState). (processor s r).loaded) c.open.ensures.opened) ∙ is))
-    (λ on. c.row_keeps.ensures.coherent (state_of old) (state_of new) (Begin c.args.page TakeShared old.around.home by) (sound.going c.requires.may.goes_on.not_ended).coherent (row c by c.requires.asked.1) on)
+    (λ on. well c.row_keeps.ensures.coherent c.row_keeps.ensures.uses_live (state_of old) (state_of new) (Begin c.args.page TakeShared old.around.home by) (is-well (sound.going c.requires.may.goes_on.not_ended)) (row c by c.requires.asked.1) on)
 
 pub returns-clause-goes_on : goal.returns-clause-goes_on
 returns-clause-goes_on c =

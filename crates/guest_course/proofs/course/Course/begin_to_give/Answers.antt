@@ -1,9 +1,7 @@
 -- The send at hand asks for it.
 use Rattle.std.proofs.Common.{refl}
 use Rattle.base_words.specs.declared.moves.By.TheVariants.{Step}
-use Rattle.isolation_law.specs.Surroundings.{cell_of_frame}
 use Rattle.guest_course.specs.CourseView.{state_of}
-use Rattle.guest_course.proofs.DirectRow.{none-dead}
 use Rattle.guest_course.proofs.NeededProofs.{give-asks}
 use Rattle.guest_course.proofs.course.Course.begin_to_give.Goals as goal
 
@@ -15,7 +13,7 @@ begin-requires-clause-may c =
       is_page = c.requires.page;
       rests = c.requires.rests;
       fits = (c.requires.foreign, refl);
-      lives = none-dead (cell_of_frame s.around c.args.spare.number.0);
+      lives = c.requires.lives;
     }
 
 pub begin-requires-clause-asked : goal.begin-requires-clause-asked

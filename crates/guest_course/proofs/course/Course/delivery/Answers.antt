@@ -1,14 +1,12 @@
 -- The frame that is handed on is the packet's, with its bytes.
-use Rattle.std.proofs.Common.{◌≡◌, ℕ, List, Some, length, take, take_all, arith, refl, sym, ap, ◌∙◌, subst}
+use Rattle.std.proofs.Common.{◌≡◌, ℕ, List, Some, length, take, take_all, arith, sym, ap, ◌∙◌, subst}
 use Rattle.std.specs.Arc.{arc_value}
 use Rattle.private_machine.specs.Backing.{Copy}
 use Rattle.private_machine.specs.Operation.{Delivers}
-use Rattle.wire_queue.specs.Packets.{page_of, packet_of, whole_of as handed_by}
-use Rattle.wire_queue.specs.declared.packet.Body.{Body}
+use Rattle.wire_queue.specs.Packets.{page_of, whole_of as handed_by}
 use Rattle.wire_queue.specs.declared.packet.Body.TheVariants.{Whole}
 use Rattle.guest_course.specs.CourseRules.{FitsInHand}
 use Rattle.guest_course.specs.CourseView.{surroundings}
-use Rattle.guest_course.specs.TakingCalls.{HandsOn}
 use Rattle.guest_course.proofs.course.Course.delivery.Goals as goal
 
 pub returns-clause-some : goal.returns-clause-some

@@ -1,5 +1,5 @@
 -- The packet's frame backs the page: the row, and the guest is as sound as before.
-use Rattle.std.proofs.Common.{◌≡◌, ◌≤◌, inr, ◌++◌, ◌∷◌, [], Some, None, length, option_map, refl, sym, ap, ◌∙◌, subst}
+use Rattle.std.proofs.Common.{◌≤◌, inr, Some, None, length, option_map, refl, sym, ap, ◌∙◌, subst}
 use Rattle.std.proofs.lemmas.Option.{same_Some}
 use Rattle.base_words.specs.declared.events.Event.TheVariants.{PacketIn}
 use Rattle.private_machine.specs.Backing.{page_at}
@@ -11,13 +11,14 @@ use Rattle.isolation_law.specs.PacketRows.{EndsDelivery}
 use Rattle.isolation_law.specs.Phases.{all_halted}
 use Rattle.guest_course.specs.declared.course.Course.{Course}
 use Rattle.guest_course.specs.Acting.{IsOwnDelivery, IsTaken}
-use Rattle.guest_course.specs.CourseView.{surroundings, state_of, hand_of, got_of}
+use Rattle.guest_course.specs.CourseView.{surroundings, state_of, hand_of}
 use Rattle.guest_course.specs.CourseRules.{FitsInHand}
 use Rattle.guest_course.specs.EmulateCalls.{StaysLoaded}
 use Rattle.guest_course.proofs.DeliveryProofs.{NotesPacket, KeepsPacket, ends-delivery-row, noted-remade, kept-remade, noted-halted}
 use Rattle.guest_course.proofs.EmulateProofs.{remade-rebacked, sound-remade}
 use Rattle.guest_course.proofs.StepProofs.{goes-on}
 use Rattle.guest_course.proofs.TakingProofs.{still-taken}
+use Rattle.guest_course.proofs.RebackLemmas.{well, is-well}
 use Rattle.guest_course.proofs.course.Course.end_delivery.Goals as goal
 
 pub got-requires : goal.got-requires
@@ -53,7 +54,7 @@ row : (c : goal.After-push_reserved) → EndsDelivery (state_of c.args.self.now)
 unfolding new own taken-still keeps notes
 row c =
     ends-delivery-row c.args.self.now c.note_packet.new.self c.take-freed.new.self (new c) c.in-Some.page.0 c.in_ok-packet.packet c.requires.goes_on (sym c.in-Some.ensures)
-    (ap (option_map hand_of) c.in-Some-hand.is ∙ ap Some (sym c.in_ok-packet.ensures)) (own c) (notes c) (c.take-freed.ensures.taken (taken-still c)) (keeps c)
+    (ap (option_map hand_of) c.in-Some-hand.is ∙ ap Some (sym c.in_ok-packet.ensures)) c.requires.lives (own c) (notes c) (c.take-freed.ensures.taken (taken-still c)) (keeps c)
 
 pub returns-clause-ends : goal.returns-clause-ends
 unfolding row new
@@ -93,4 +94,4 @@ returns-clause-sound c =
     let mid = noted-remade old c.note_packet.new.self q x sound on (notes c) in
     sound-remade old (new c) sound on (kept-remade old c.take-freed.new.self (new c) x (remade-rebacked old c.note_packet.new.self c.take-freed.new.self mid c.take-freed.ensures.rebacked) (keeps c))
     (λ r u is. sound.loaded r u (sym ((stays c).loaded r) ∙ is))
-    (c.row_keeps.ensures.coherent (state_of old) (state_of (new c)) (PacketIn (length old.received.items)) (sound.going on).coherent (inr (row c)) ((stays c).end ∙ on))
+    (well c.row_keeps.ensures.coherent c.row_keeps.ensures.uses_live (state_of old) (state_of (new c)) (PacketIn (length old.received.items)) (is-well (sound.going on)) (inr (row c)) ((stays c).end ∙ on))

@@ -1,5 +1,5 @@
 -- The read is its row, and the guest is as sound as before.
-use Rattle.std.proofs.Common.{◌≡◌, ℕ, inr, List, length, map, refl, sym, ap, ◌∙◌}
+use Rattle.std.proofs.Common.{◌≡◌, ℕ, inr, List, length, map, sym, ap, ◌∙◌}
 use Rattle.std.specs.Vec.{with_items}
 use Rattle.base_words.specs.declared.events.Event.TheVariants.{Emulate}
 use Rattle.base_words.specs.declared.ids.ProcId.{ProcId}
@@ -31,6 +31,7 @@ use Rattle.guest_course.proofs.EmulateProofs.{remade-rebacked, sound-remade}
 use Rattle.guest_course.proofs.HaltLemmas.{left-halted}
 use Rattle.guest_course.proofs.StepProofs.{goes-on}
 use Rattle.guest_course.proofs.TakingProofs.{ends-read-row, still-taken}
+use Rattle.guest_course.proofs.RebackLemmas.{well, is-well}
 use Rattle.guest_course.proofs.course.Course.end_read.Goals as goal
 
 -- once the instruction is passed and the status set
@@ -114,7 +115,7 @@ returns-clause-sound c =
     let processor : ProcId = record { 0 = p } in
     sound-remade old new sound on (remade-rebacked old (mid c) new (left-remade old (mid c) c.args.vcpu.0 (task c) sound on (left c)) c.take.ensures.rebacked)
     (λ r u is. sound.loaded r u (sym (loaded r) ∙ is))
-    (c.row_keeps.ensures.coherent (state_of old) (state_of new) (Emulate processor c.args.vcpu) going.coherent (inr (row c p act.traps)) (c.take.ensures.rebacked.ended ∙ stays.end ∙ on))
+    (well c.row_keeps.ensures.coherent c.row_keeps.ensures.uses_live (state_of old) (state_of new) (Emulate processor c.args.vcpu) (is-well going) (inr (row c p act.traps)) (c.take.ensures.rebacked.ended ∙ stays.end ∙ on))
 
 pub returns-clause-stays : goal.returns-clause-stays
 unfolding left mid task taken-still

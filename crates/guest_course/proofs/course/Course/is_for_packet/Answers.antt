@@ -1,9 +1,8 @@
 -- The operation is a packet's, of the same place.
-use Rattle.std.proofs.Common.{◌≡◌, Some, sym, ap, ◌∙◌}
+use Rattle.std.proofs.Common.{Some, sym, ap, ◌∙◌}
 use Rattle.std.proofs.lemmas.List.{get_or-map}
 use Rattle.private_machine.specs.Operation.{Delivers}
 use Rattle.guest_course.specs.CourseView.{purpose_of}
-use Rattle.guest_course.specs.TakingCalls.{place_of}
 use Rattle.guest_course.proofs.TakingProofs.{delivers-at, on-equal}
 use Rattle.guest_course.proofs.course.Course.is_for_packet.Goals as goal
 

@@ -1,13 +1,11 @@
 -- The packet goes on the wire to its receiver.
-use Rattle.std.proofs.Common.{◌≡◌, ℕ, sym, ap, ◌∙◌, subst}
+use Rattle.std.proofs.Common.{◌≡◌, sym, ap, ◌∙◌, subst}
 use Rattle.std.specs.Option.{option_map}
 use Rattle.std.proofs.lemmas.Result.{IfOk-weaker}
-use Rattle.base_words.specs.declared.device.Transfer.{Transfer}
 use Rattle.private_machine.specs.Backing.{page_at}
 use Rattle.private_machine.specs.DevicePage.{transfer_of}
 use Rattle.isolation_law.specs.Surroundings.{cell_of_frame}
 use Rattle.wire_queue.specs.Lines.{Fits}
-use Rattle.wire_queue.specs.Packets.{packet_of}
 use Rattle.virtual_subnet.specs.Offering.{handed_of, offered}
 use Rattle.guest_course.specs.declared.course.Course.{Course}
 use Rattle.guest_course.specs.CourseView.{surroundings, state_of}

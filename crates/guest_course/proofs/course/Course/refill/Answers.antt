@@ -11,10 +11,12 @@ use Rattle.guest_course.specs.CourseView.{state_of}
 use Rattle.guest_course.specs.Granting.{is_miss as is_miss_of, Grants}
 use Rattle.guest_course.specs.declared.granting.Granted.{Granted}
 use Rattle.trap_emulate.specs.Requests.{wanted_of}
-use Rattle.guest_course.proofs.RebackLemmas.{sound-rebacked, loaded-elsewhere}
+use Rattle.guest_course.proofs.RebackLemmas.{sound-rebacked, loaded-elsewhere, well, is-well}
 use Rattle.guest_course.proofs.StepProofs.{goes-on}
 use Rattle.guest_course.proofs.TrapLemmas.{missed-if, not-missed}
 use Rattle.guest_course.proofs.RefillProofs.{access-is, accessed-same, in-range, denied-accessed, denied-none, stays-denied, refills, reaches-page, store-kept, rests-told}
+use Rattle.guest_course.proofs.LiveLemmas.{reaches-none, copy-used}
+use Rattle.guest_course.proofs.PlaceLemmas.{loaded-below}
 use Rattle.guest_course.proofs.course.Course.refill.Goals as goal
 
 pub accessed-requires-clause-access : goal.accessed-requires-clause-access
@@ -25,35 +27,53 @@ returns-in_default-clause-serves c =
     let s = state_of c.args.self.now in
     let x = c.requires.traps in
     let none : trapped_access x.trap ≡ None =
-    sym (accessed-same c.traps_tell.ensures s c.args.processor.0 c.args.vcpu.0 c.args.cause refl x) ∙ sym c.accessed.ensures.access ∙ ap (option_map wanted_of) c.in_default.is in
-    stays-denied s s c.args.processor.0 c.args.vcpu.0 c.args.cause x refl (denied-none s c.args.processor.0 c.args.vcpu.0 c.args.cause x none) refl
+    sym (accessed-same c.traps_tell.ensures s c.args.processor.0 c.args.vcpu.0 c.args.cause (reaches-none c.live_frames_are_reached.ensures c.args.self.now c.args.processor.0 c.args.vcpu.0 c.requires.sound c.requires.may) x) ∙ sym c.accessed.ensures.access ∙ ap (option_map wanted_of) c.in_default.is in
+    stays-denied s s c.args.processor.0 c.args.vcpu.0 c.args.cause x (reaches-none c.live_frames_are_reached.ensures c.args.self.now c.args.processor.0 c.args.vcpu.0 c.requires.sound c.requires.may) (denied-none s c.args.processor.0 c.args.vcpu.0 c.args.cause x none) refl
 
 pub granted-requires-clause-in_range : goal.granted-requires-clause-in_range
 granted-requires-clause-in_range c =
     let s = state_of c.args.self.now in
     let x = c.requires.traps in
     in-range s c.args.processor.0 c.args.vcpu.0 c.args.cause x (wanted_of c.in-Some.access)
-    (sym (accessed-same c.traps_tell.ensures s c.args.processor.0 c.args.vcpu.0 c.args.cause refl x) ∙ sym c.accessed.ensures.access ∙ ap (option_map wanted_of) c.in-Some.is)
+    (sym (accessed-same c.traps_tell.ensures s c.args.processor.0 c.args.vcpu.0 c.args.cause (reaches-none c.live_frames_are_reached.ensures c.args.self.now c.args.processor.0 c.args.vcpu.0 c.requires.sound c.requires.may) x) ∙ sym c.accessed.ensures.access ∙ ap (option_map wanted_of) c.in-Some.is)
 
 pub returns-in_default-granted-clause-serves : goal.returns-in_default-granted-clause-serves
 returns-in_default-granted-clause-serves c =
     let s = state_of c.args.self.now in
     let x = c.requires.traps in
     let some : trapped_access x.trap ≡ Some (wanted_of c.in-Some.access) =
-    sym (accessed-same c.traps_tell.ensures s c.args.processor.0 c.args.vcpu.0 c.args.cause refl x) ∙ sym c.accessed.ensures.access ∙ ap (option_map wanted_of) c.in-Some.is in
+    sym (accessed-same c.traps_tell.ensures s c.args.processor.0 c.args.vcpu.0 c.args.cause (reaches-none c.live_frames_are_reached.ensures c.args.self.now c.args.processor.0 c.args.vcpu.0 c.requires.sound c.requires.may) x) ∙ sym c.accessed.ensures.access ∙ ap (option_map wanted_of) c.in-Some.is in
     let denied = subst (λ (g : Option Granted). Grants (vcpu_of s c.args.vcpu.0) (length s.pages) (wanted_of c.in-Some.access) g) c.in_default-granted.is c.granted.ensures in
-    stays-denied s s c.args.processor.0 c.args.vcpu.0 c.args.cause x refl (denied-accessed s c.args.processor.0 c.args.vcpu.0 c.args.cause x (wanted_of c.in-Some.access) some denied) refl
+    stays-denied s s c.args.processor.0 c.args.vcpu.0 c.args.cause x (reaches-none c.live_frames_are_reached.ensures c.args.self.now c.args.processor.0 c.args.vcpu.0 c.requires.sound c.requires.may) (denied-accessed s c.args.processor.0 c.args.vcpu.0 c.args.cause x (wanted_of c.in-Some.access) some denied) refl
 
 pub returns-then-is_some-clause-serves : goal.returns-then-is_some-clause-serves
 returns-then-is_some-clause-serves c =
     let s = state_of c.args.self.now in
     let x = c.requires.traps in
     let some : trapped_access x.trap ≡ Some (wanted_of c.in-Some.access) =
-    sym (accessed-same c.traps_tell.ensures s c.args.processor.0 c.args.vcpu.0 c.args.cause refl x) ∙ sym c.accessed.ensures.access ∙ ap (option_map wanted_of) c.in-Some.is in
+    sym (accessed-same c.traps_tell.ensures s c.args.processor.0 c.args.vcpu.0 c.args.cause (reaches-none c.live_frames_are_reached.ensures c.args.self.now c.args.processor.0 c.args.vcpu.0 c.requires.sound c.requires.may) x) ∙ sym c.accessed.ensures.access ∙ ap (option_map wanted_of) c.in-Some.is in
     record {
       reaches = reaches-page s c.args.processor.0 c.args.vcpu.0 c.args.cause x (wanted_of c.in-Some.access) c.in-Some-granted.granted some c.in-Some-granted.ensures;
       moves = λ none. true≢false (sym c.if-is_some.true ∙ c.is_some.ensures ∙ ap is_some (c.open_move.ensures ∙ ap (option_map told) none));
       same = refl;
+    }
+
+pub fill-requires : goal.fill-requires
+fill-requires c =
+    let old = c.args.self.now in
+    let s = state_of old in
+    let sound = c.requires.sound in
+    let runs = c.requires.may.runs.loaded in
+    let going = sound.going c.requires.may.goes_on.not_ended in
+    let within = c.in-Some-granted.ensures.within in
+    record {
+      is_processor = loaded-below old.places.items c.args.processor.0 c.args.vcpu.0 runs;
+      few_processors = sound.sized.few_processors;
+      is_vcpu = sound.loaded c.args.processor.0 c.args.vcpu.0 runs;
+      seconds = sound.sized.seconds;
+      is_page = within;
+      stands = sound.places;
+      live = λ x has. c.goes_on_alive.ensures.used s x going.live c.requires.may.goes_on (copy-used s c.in-Some-granted.granted.page.0 x within has);
     }
 
 pub returns-then-is_miss-clause-serves : goal.returns-then-is_miss-clause-serves
@@ -61,7 +81,7 @@ returns-then-is_miss-clause-serves c =
     let s = state_of c.args.self.now in
     let x = c.requires.traps in
     let some : trapped_access x.trap ≡ Some (wanted_of c.in-Some.access) =
-    sym (accessed-same c.traps_tell.ensures s c.args.processor.0 c.args.vcpu.0 c.args.cause refl x) ∙ sym c.accessed.ensures.access ∙ ap (option_map wanted_of) c.in-Some.is in
+    sym (accessed-same c.traps_tell.ensures s c.args.processor.0 c.args.vcpu.0 c.args.cause (reaches-none c.live_frames_are_reached.ensures c.args.self.now c.args.processor.0 c.args.vcpu.0 c.requires.sound c.requires.may) x) ∙ sym c.accessed.ensures.access ∙ ap (option_map wanted_of) c.in-Some.is in
     let missed : missed_access x.trap ≡ trapped_access x.trap = missed-if x.trap (ap is_miss_of x.told ∙ sym c.is_miss.ensures ∙ c.if-is_miss.true) in
     let rests = rests-told (page s c.in-Some-granted.granted.page.0).move (ap is_some (sym c.open_move.ensures) ∙ sym c.is_some.ensures ∙ c.if-is_some.false) in
     refills s (state_of c.fill.new.self) c.args.processor.0 c.args.vcpu.0 c.args.cause c.requires.may x (wanted_of c.in-Some.access) c.in-Some-granted.granted (missed ∙ some) rests
@@ -74,7 +94,7 @@ returns-then-is_miss-clause-sound c =
     let x = c.requires.traps in
     let going = c.requires.sound.going c.requires.may.goes_on.not_ended in
     let some : trapped_access x.trap ≡ Some (wanted_of c.in-Some.access) =
-    sym (accessed-same c.traps_tell.ensures s c.args.processor.0 c.args.vcpu.0 c.args.cause refl x) ∙ sym c.accessed.ensures.access ∙ ap (option_map wanted_of) c.in-Some.is in
+    sym (accessed-same c.traps_tell.ensures s c.args.processor.0 c.args.vcpu.0 c.args.cause (reaches-none c.live_frames_are_reached.ensures c.args.self.now c.args.processor.0 c.args.vcpu.0 c.requires.sound c.requires.may) x) ∙ sym c.accessed.ensures.access ∙ ap (option_map wanted_of) c.in-Some.is in
     let missed : missed_access x.trap ≡ trapped_access x.trap = missed-if x.trap (ap is_miss_of x.told ∙ sym c.is_miss.ensures ∙ c.if-is_miss.true) in
     let rests = rests-told (page s c.in-Some-granted.granted.page.0).move (ap is_some (sym c.open_move.ensures) ∙ sym c.is_some.ensures ∙ c.if-is_some.false) in
     let row = refills s (state_of c.fill.new.self) c.args.processor.0 c.args.vcpu.0 c.args.cause c.requires.may x (wanted_of c.in-Some.access) c.in-Some-granted.granted (missed ∙ some) rests
@@ -82,7 +102,7 @@ returns-then-is_miss-clause-sound c =
     let filled = c.fill.ensures.filled in
     sound-rebacked old c.fill.new.self c.requires.sound c.fill.ensures.rebacked
     (λ r u is. c.requires.sound.loaded r u (sym (loaded-elsewhere s.processors c.args.processor.0 r filled.tlb) ∙ subst (λ t. (processor t r).loaded ≡ Some u) filled.after is))
-    (λ on. c.row_keeps.ensures.coherent s (state_of c.fill.new.self) (Refill c.args.processor) going.coherent row on)
+    (λ on. well c.row_keeps.ensures.coherent c.row_keeps.ensures.uses_live s (state_of c.fill.new.self) (Refill c.args.processor) (is-well going) row on)
 
 pub returns-then-is_miss-clause-goes_on : goal.returns-then-is_miss-clause-goes_on
 returns-then-is_miss-clause-goes_on c =
@@ -105,9 +125,9 @@ need-requires-clause-kept c =
     let x = c.requires.traps in
     let going = c.requires.sound.going c.requires.may.goes_on.not_ended in
     let some : trapped_access x.trap ≡ Some (wanted_of c.in-Some.access) =
-    sym (accessed-same c.traps_tell.ensures s c.args.processor.0 c.args.vcpu.0 c.args.cause refl x) ∙ sym c.accessed.ensures.access ∙ ap (option_map wanted_of) c.in-Some.is in
-    let reaches = reaches-page s c.args.processor.0 c.args.vcpu.0 c.args.cause x (wanted_of c.in-Some.access) c.in-Some-granted.granted some c.in-Some-granted.ensures in
-    store-kept c.read_only_needs.ensures s c.args.processor.0 c.args.vcpu.0 c.in-Some-granted.granted.page.0 going.coherent refl c.requires.may.runs.loaded reaches
+    sym (accessed-same c.traps_tell.ensures s c.args.processor.0 c.args.vcpu.0 c.args.cause (reaches-none c.live_frames_are_reached.ensures c.args.self.now c.args.processor.0 c.args.vcpu.0 c.requires.sound c.requires.may) x) ∙ sym c.accessed.ensures.access ∙ ap (option_map wanted_of) c.in-Some.is in
+    let there = reaches-page s c.args.processor.0 c.args.vcpu.0 c.args.cause x (wanted_of c.in-Some.access) c.in-Some-granted.granted some c.in-Some-granted.ensures in
+    store-kept c.read_only_needs.ensures s c.args.processor.0 c.args.vcpu.0 c.in-Some-granted.granted.page.0 going.coherent (reaches-none c.live_frames_are_reached.ensures c.args.self.now c.args.processor.0 c.args.vcpu.0 c.requires.sound c.requires.may) c.requires.may.runs.loaded there
     (not-missed x.trap (ap is_miss_of x.told ∙ sym c.is_miss.ensures ∙ c.if-is_miss.false))
 
 pub returns-clause-serves : goal.returns-clause-serves
@@ -116,7 +136,7 @@ returns-clause-serves c =
     let s = state_of c.args.self.now in
     let x = c.requires.traps in
     let some : trapped_access x.trap ≡ Some (wanted_of c.in-Some.access) =
-    sym (accessed-same c.traps_tell.ensures s c.args.processor.0 c.args.vcpu.0 c.args.cause refl x) ∙ sym c.accessed.ensures.access ∙ ap (option_map wanted_of) c.in-Some.is in
+    sym (accessed-same c.traps_tell.ensures s c.args.processor.0 c.args.vcpu.0 c.args.cause (reaches-none c.live_frames_are_reached.ensures c.args.self.now c.args.processor.0 c.args.vcpu.0 c.requires.sound c.requires.may) x) ∙ sym c.accessed.ensures.access ∙ ap (option_map wanted_of) c.in-Some.is in
     record {
       reaches = reaches-page s c.args.processor.0 c.args.vcpu.0 c.args.cause x (wanted_of c.in-Some.access) c.in-Some-granted.granted some c.in-Some-granted.ensures;
       stores = not-missed x.trap (ap is_miss_of x.told ∙ sym c.is_miss.ensures ∙ c.if-is_miss.false);

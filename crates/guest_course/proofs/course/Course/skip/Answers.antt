@@ -6,7 +6,7 @@ use Rattle.isolation_law.specs.GuestState.{processor}
 use Rattle.isolation_law.specs.SkipRow.{Skips}
 use Rattle.guest_course.specs.declared.course.Course.{Course}
 use Rattle.guest_course.specs.CourseView.{due_of, state_of}
-use Rattle.guest_course.proofs.RebackLemmas.{sound-rebacked}
+use Rattle.guest_course.proofs.RebackLemmas.{sound-rebacked, well, is-well}
 use Rattle.guest_course.proofs.SkipProofs.{Passed, skips-row, passed-rebacked}
 use Rattle.guest_course.proofs.course.Course.skip.Goals as goal
 
@@ -41,4 +41,4 @@ returns-clause-sound c =
     let sound = c.requires.sound in
     sound-rebacked old new sound (passed-rebacked old new c.args.entry sound.places (passed c))
     (λ r u is. sound.loaded r u (sym (ap (λ (x : Course). (processor (state_of x) r).loaded) (passed c).same) ∙ is))
-    (λ on. c.row_keeps.ensures.coherent (state_of old) (state_of new) (Skip (length old.skips.items)) (sound.going (sym (ap (λ (x : Course). x.ended) (passed c).same) ∙ on)).coherent (row c) on)
+    (λ on. well c.row_keeps.ensures.coherent c.row_keeps.ensures.uses_live (state_of old) (state_of new) (Skip (length old.skips.items)) (is-well (sound.going (sym (ap (λ (x : Course). x.ended) (passed c).same) ∙ on))) (row c) on)

@@ -1,6 +1,6 @@
 -- The frame that others may hold too is the page's master, and nothing is due of it.
-use Rattle.std.proofs.Common.{◌≡◌, Some, sym, ap, ◌∙◌, arith}
-use Rattle.private_machine.specs.Backing.{Copy, Move, TakesShared}
+use Rattle.std.proofs.Common.{sym, ap, ◌∙◌, arith}
+use Rattle.private_machine.specs.Backing.{TakesShared}
 use Rattle.pmap_table.specs.Ending.{Takes}
 use Rattle.guest_course.specs.declared.course.Course.{Course}
 use Rattle.guest_course.specs.Acting.{IsTaken}

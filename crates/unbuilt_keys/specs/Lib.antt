@@ -1,2 +1,0 @@
-pub mod Unbuilt
-pub mod Built
