@@ -16,12 +16,10 @@ mod setup;
 mod single;
 mod words;
 
-pub use disks::{DiskList, DiskNumbers};
+pub use disks::{DiskList, DiskNumbers, disks_in};
 pub use faults::{Fault, Refusal};
 pub use images::ImageList;
 pub use job::admit;
 pub use law::{examples, made_accepted, made_described, made_loads, made_served, steady, told};
 pub use setup::{Job, Setup};
-
-#[cfg(test)]
-mod tests;
+pub use words::{Form, read_form};

@@ -20,6 +20,8 @@ mod policy;
 #[cfg(test)]
 mod refusals;
 #[cfg(test)]
+mod run_report_texts;
+#[cfg(test)]
 mod sharing;
 #[cfg(test)]
 mod storing_at_once;

@@ -30,6 +30,14 @@ pub ends_with_run : (e : Event) (xs : List Event) (n : ℕ) → 0 < n → EndsWi
 ends_with_run e xs zero h = absurd (omega arith)
 ends_with_run e xs (suc k) h = ends_after e xs k
 
+pub ends_with_last_one : (e : Event) (xs : List Event) → EndsWith e (xs ++ e ∷ [])
+ends_with_last_one e xs = ends_after e xs 0
+
+-- a list ends with one entry
+pub EndsWith-one : (d e : Event) (xs : List Event) → EndsWith d xs → EndsWith e xs → d ≡ e
+EndsWith-one d e [] is other = absurd is
+EndsWith-one d e (f ∷ xs) is other = sym is ∙ other
+
 HasChanges-push_same : (e : Event) (es : List Event) (n : ℕ) → HasChanges e es n
     → HasChanges e (es ++ last_after e es ∷ []) n
 HasChanges-push_same e [] n h = inl (refl, h)

@@ -1,5 +1,5 @@
 -- What a journal keeps, after one entry more.
-use Rattle.std.proofs.Common.{◌≡◌, ◌≢◌, ℕ, ◌+◌, ◌-◌, ◌<◌, List, [], ◌∷◌, ◌++◌, length, replicate, Option, Some, None, sym}
+use Rattle.std.proofs.Common.{◌≡◌, ◌≢◌, ℕ, zero, suc, ◌+◌, ◌-◌, ◌<◌, List, [], ◌∷◌, ◌++◌, length, replicate, Option, Some, None, sym}
 use Rattle.std.proofs.Common.{ap, ◌∙◌, subst, arith, append_assoc, length-append}
 use Rattle.std.proofs.lemmas.List.{append-nil, nil_from_length, length-replicate, replicate-append-replicate}
 use Rattle.std.proofs.lemmas.List.Concat.{flat_map-append}
@@ -8,7 +8,7 @@ use Rattle.event_journal.specs.declared.run.Run.{Run}
 use Rattle.event_journal.specs.Runs.{expanded, entries_of}
 use Rattle.event_journal.specs.RunCount.{HasRuns}
 use Rattle.event_journal.specs.Parts.{runs_in, GoesOn, IsMarkOf, Agree}
-use Rattle.event_journal.proofs.CountLemmas.{EndsWith, ends_with_run, HasRuns-push_same, HasRuns-push_other}
+use Rattle.event_journal.proofs.CountLemmas.{EndsWith, EndsWith-one, ends_with_run, ends_with_last_one, HasRuns-push_same, HasRuns-push_other}
 
 -- a run behind others
 entries_of-push : (runs : List Run) (e : Event) (n : ℕ)
@@ -46,16 +46,16 @@ module _ (ended : List Run) (before : ℕ) where
       let run = ends_with_run e (entries_of ended) (entries - before) (omega arith) in
       subst (EndsWith e) (sym (entries_of-push ended e (entries - before))) run
 
-  -- one entry more in it
-  all-more : (e : Event) (entries : ℕ) → before < entries → all (Some e) (entries + 1) ≡ all (Some e) entries ++ e ∷ []
-  all-more e entries goes =
+  -- so many entries more in it
+  all-many : (e : Event) (many entries : ℕ) → before < entries → all (Some e) (entries + many) ≡ all (Some e) entries ++ replicate many e
+  all-many e many entries goes =
       let n = entries - before in
-      let more : entries + 1 - before ≡ n + 1 = omega arith in
-      entries_of-push ended e (entries + 1 - before)
+      let more : entries + many - before ≡ n + many = omega arith in
+      entries_of-push ended e (entries + many - before)
       ∙ ap (λ m. entries_of ended ++ replicate m e) more
-      ∙ ap (λ es. entries_of ended ++ es) (sym (replicate-append-replicate n 1 e))
-      ∙ sym (append_assoc (entries_of ended) (replicate n e) (e ∷ []))
-      ∙ ap (λ es. es ++ e ∷ []) (sym (entries_of-push ended e n))
+      ∙ ap (λ es. entries_of ended ++ es) (sym (replicate-append-replicate n many e))
+      ∙ sym (append_assoc (entries_of ended) (replicate n e) (replicate many e))
+      ∙ ap (λ es. es ++ replicate many e) (sym (entries_of-push ended e n))
 
   Agree-more : (e : Event) (entries mark : ℕ) → Agree ended before (Some e) entries mark
       → Agree ended before (Some e) (entries + 1) mark
@@ -63,7 +63,7 @@ module _ (ended : List Run) (before : ℕ) where
       let goes : before < entries = a.goes_on in
       let same = HasRuns-push_same e _ _ (ends_with_last e entries goes) a.runs in
       let kept : HasRuns (all (Some e) (entries + 1)) (runs (Some e) entries) =
-      subst (λ es. HasRuns es (runs (Some e) entries)) (sym (all-more e entries goes)) same in
+      subst (λ es. HasRuns es (runs (Some e) entries)) (sym (all-many e 1 entries goes)) same in
       record {
         counted = a.counted;
         goes_on = omega arith;
@@ -71,18 +71,46 @@ module _ (ended : List Run) (before : ℕ) where
         marked = a.marked;
       }
 
+  Agree-many : (e : Event) (many entries mark : ℕ) → Agree ended before (Some e) entries mark
+      → Agree ended before (Some e) (entries + many) mark
+  Agree-many e zero entries mark a = subst (λ n. Agree ended before (Some e) n mark) (omega arith) a
+  Agree-many e (suc many) entries mark a =
+      let next : entries + 1 + many ≡ entries + suc many = omega arith in
+      subst (λ n. Agree ended before (Some e) n mark) next (Agree-many e many (entries + 1) mark (Agree-more e entries mark a))
+
+  -- the last entry is that of the run that goes on
+  pub last-is : (last : Option Event) (e : Event) (es : List Event) (entries mark : ℕ) → all last entries ≡ es ++ e ∷ []
+      → Agree ended before last entries mark → last ≡ Some e
+  last-is None e es entries mark is a =
+      let none = length-all None entries a.counted a.goes_on ∙ a.goes_on.1 in
+      let some = sym (ap length is) ∙ none in
+      let sum = length-append es (e ∷ []) in
+      absurd (omega (arith, some, sum))
+  last-is (Some d) e es entries mark is a =
+      let own = subst (EndsWith d) is (ends_with_last d entries a.goes_on) in
+      ap Some (EndsWith-one d e (es ++ e ∷ []) own (ends_with_last_one e es))
+
+  -- the last entry comes so many times more
+  pub all-as_many : (last : Option Event) (e : Event) (many entries mark : ℕ) → last ≡ Some e → Agree ended before last entries mark
+      → all last (entries + many) ≡ all last entries ++ replicate many e
+  all-as_many last e many entries mark is a =
+      let goes : before < entries = subst (λ l. GoesOn l before entries) is a.goes_on in
+      subst (λ l. all l (entries + many) ≡ all l entries ++ replicate many e) (sym is) (all-many e many entries goes)
+
+  pub Agree-as_many : (last : Option Event) (e : Event) (many entries mark : ℕ) → last ≡ Some e
+      → Agree ended before last entries mark → Agree ended before last (entries + many) mark
+  Agree-as_many last e many entries mark is a =
+      let more = Agree-many e many entries mark (subst (λ l. Agree ended before l entries mark) is a) in
+      subst (λ l. Agree ended before l (entries + many) mark) (sym is) more
+
   -- the last entry comes once more
   pub all-same : (last : Option Event) (e : Event) (entries mark : ℕ) → last ≡ Some e → Agree ended before last entries mark
       → all last (entries + 1) ≡ all last entries ++ e ∷ []
-  all-same last e entries mark is a =
-      let goes : before < entries = subst (λ l. GoesOn l before entries) is a.goes_on in
-      subst (λ l. all l (entries + 1) ≡ all l entries ++ e ∷ []) (sym is) (all-more e entries goes)
+  all-same last e entries mark = all-as_many last e 1 entries mark
 
   pub Agree-same : (last : Option Event) (e : Event) (entries mark : ℕ) → last ≡ Some e → Agree ended before last entries mark
       → Agree ended before last (entries + 1) mark
-  Agree-same last e entries mark is a =
-      let more = Agree-more e entries mark (subst (λ l. Agree ended before l entries mark) is a) in
-      subst (λ l. Agree ended before l (entries + 1) mark) (sym is) more
+  Agree-same last e entries mark = Agree-as_many last e 1 entries mark
 
   -- another entry makes one run more
   HasRuns-other : (last : Option Event) (e : Event) (entries mark : ℕ) → last ≢ Some e → Agree ended before last entries mark

@@ -1,5 +1,5 @@
 //! The journal: the runs that have ended, and the one that goes on.
-ghost use Rattle.std.specs.Prelude.{◌≡◌, ◌+◌, ◌<◌, ◌≤◌, ◌^◌, ℕ, [], ◌∷◌, ◌++◌, length, OnOk, OnErr, IsTrue, ◌↔◌};
+ghost use Rattle.std.specs.Prelude.{◌≡◌, ◌+◌, ◌-◌, min, ◌<◌, ◌≤◌, ◌^◌, ℕ, [], ◌∷◌, ◌++◌, length, replicate, OnOk, OnErr, IsTrue, ◌↔◌};
 ghost use Rattle.base_words.specs.declared.events.Event.TheVariants.{Direct};
 ghost use Rattle.event_journal.specs.Runs.{entries_of};
 ghost use Rattle.event_journal.specs.RunCount.{HasRuns};
@@ -144,6 +144,22 @@ impl Journal {
         ensures room { self.old.room ≤ self.new.room + 1 }
     {
         self.push(Event::Direct(processor, vcpu));
+    }
+
+    /// Puts so many Direct entries at the end, mostly more of the last run. They need room for one.
+    #[inline]
+    pub fn push_directs(&mut self, processor: ProcId, vcpu: VcpuId, count: u64)
+        requires room { 0 < self.old.room }
+        requires few { length self.old.entries + count < 2 ^ 64 }
+        ensures entries { self.new.entries ≡ self.old.entries ++ replicate count (Direct processor vcpu) }
+        ensures room { min (self.old.room - 1) (2 ^ 64 - 1 - length self.new.entries) ≤ self.new.room }
+        ensures none { count ≡ 0 → self.new ≡ self.old }
+    {
+        if count == 0 {
+            return;
+        }
+        self.push_direct(processor, vcpu);
+        self.entries += count - 1;
     }
 
     /// How many entries there are.

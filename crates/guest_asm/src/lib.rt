@@ -24,8 +24,3 @@ pub use assembler::assemble;
 pub use fault::{AsmCause, AsmFault};
 pub use law::{images_are_loaded, words_are_instructions};
 pub use listing::listing_of;
-
-#[cfg(test)]
-mod test_texts;
-#[cfg(test)]
-mod tests;

@@ -27,6 +27,7 @@ pub mod GainLemmas
 pub mod MoveLemmas
 pub mod ActingLemmas
 pub mod DueLemmas
+pub mod AheadProofs
 pub mod ActLemmas
 pub mod AskLemmas
 pub mod HandedLemmas

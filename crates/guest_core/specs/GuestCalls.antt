@@ -1,5 +1,5 @@
 -- What each call of a guest does, by its answer: which entries its journal gains, and which notes its seat and the token.
-use Rattle.std.specs.Prelude.{◌≡◌, ◌≢◌, ◌⊎◌, ℕ, ◌<◌, ◌≤◌, ◌+◌, List, [], ◌∷◌, ◌++◌, length, map, Bool, true, false, if◌then◌else◌, Option, Some, None, IfSome, unwrap_or, Result, Ok, Err}
+use Rattle.std.specs.Prelude.{◌≡◌, ◌≢◌, ◌⊎◌, ℕ, ◌<◌, ◌≤◌, ◌+◌, List, [], ◌∷◌, ◌++◌, length, map, replicate, Bool, true, false, if◌then◌else◌, Option, Some, None, IfSome, unwrap_or, Result, Ok, Err}
 use Rattle.std.specs.declared.alloc.AllocError.{AllocError}
 use Rattle.base_words.specs.declared.ids.ProcId.{ProcId}
 use Rattle.base_words.specs.declared.ids.VcpuId.{VcpuId}
@@ -96,6 +96,17 @@ told_of_load p v loaded.Done = Made (Load p v) ∷ []
 told_of_load p v (loaded.On q) = []
 told_of_load p v (loaded.Dead cell) = Dead cell ∷ []
 told_of_load p v (loaded.Ended end) = Ended end ∷ []
+
+-- ---- steps that the processor makes by itself, one after the other
+
+-- so many, before which no page waited for the processor and no move was ready
+pub record StepsAhead (old : Monitored) (token : Token) (v : VcpuId) (count : ℕ) (new : Monitored) (token_after : Token) : Type 0 where
+  pub rest : count ≢ 0 → IsAtRest old.state token.number
+  pub makes : MakesAlone old (replicate count (Direct (processor_of token) v)) new
+  pub learns : Learns old token (replicate count (Made (Direct (processor_of token) v))) new token_after
+  pub end : new.state.end ≡ old.state.end
+  pub same : IsSameGuest old new
+  pub handed : new.handed ≡ old.handed
 
 -- ---- turn
 

@@ -35,7 +35,7 @@ pub record IsShapeOf (w : Surroundings) (shape : Shape) : Type 0 where
   pub frames : shape.frames ≡ w.frames
   pub cells : map (λ c. c.0) shape.cells ≡ w.nodes
 
--- four cells are counted, as many as a machine has at most, and each counter is the plain count, on the machine around the guest
+-- eight cells are counted, as many as a machine has at most, and each counter is the plain count, on the machine around the guest
 pub record AreUses (s : GuestState) (uses : UsesState) : Type 0 where
   pub shape : Shape
   pub told : IsShapeOf s.around shape

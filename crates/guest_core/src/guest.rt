@@ -16,7 +16,7 @@ ghost use Rattle.guest_core.specs.Holding.{HasFrames, HoldsFor};
 ghost use Rattle.guest_core.specs.GuestView.{IsAtStart, IsSameGuest, AreOf, shared_by};
 ghost use Rattle.guest_core.specs.Noting.{IsNoted, shows_loaded};
 ghost use Rattle.guest_core.specs.FailCalls.{FailsCell, told_of_failure};
-ghost use Rattle.guest_core.specs.GuestCalls.{Leaves, LoadsVcpu, told_of_load, MayNote, MayCall, processor_of, loaded_on, Turns, told_of_turn};
+ghost use Rattle.guest_core.specs.GuestCalls.{Leaves, LoadsVcpu, told_of_load, MayNote, MayCall, StepsAhead, processor_of, loaded_on, Turns, told_of_turn};
 ghost use Rattle.guest_core.specs.Making.{Makes, MakesAlone, Stays};
 ghost use Rattle.guest_course.specs.Errands.{MustWait};
 ghost use Rattle.guest_core.specs.AskCalls.{IsAsked};
@@ -205,6 +205,20 @@ impl Guest {
         ensures leaves { Leaves self.old token.old (told_of_turn (processor_of token.old) (loaded_on self.old token.old) result) self.new token.new }
     {
         self.parts.turn(rt, alloc, token, resources)
+    }
+
+    /// Makes steps of the virtual processor that is loaded on the token's processor, at most so many, while each is one that the processor
+    /// makes by itself and nothing else comes first: no end, no page that waits for the processor, no move that is ready, no choice of the
+    /// policy. Answers how many. It takes no memory, and waits for nothing.
+    pub fn steps_ahead(&mut self, token: &mut ProcToken, most: u64) -> u64
+        requires may { MayCall self.old token.old }
+        requires room { 2 ≤ self.old.room }
+        requires loaded { (processor_at self.old.state token.old.number).loaded ≢ None }
+        requires acts { MayAct self.old.state token.old.number }
+        ensures few { result ≤ most }
+        ensures ahead { StepsAhead self.old token.old (loaded_on self.old token.old) result self.new token.new }
+    {
+        self.parts.steps_ahead(token, most)
     }
 
     /// A move of a page is asked for through the token's processor: by the policy, where just that is due there, and else by the plan. `Busy` exactly where the guest hasn't ended and the page has a move;

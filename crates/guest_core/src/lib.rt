@@ -4,6 +4,7 @@
 mod answers;
 mod asking;
 mod booting;
+mod bursting;
 mod causes;
 mod ending;
 mod failing;

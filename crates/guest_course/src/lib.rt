@@ -2,6 +2,7 @@
 #![tactic(auto)]
 
 mod booting;
+mod bursting;
 mod bus;
 mod course;
 mod direct;
@@ -36,6 +37,7 @@ mod taking;
 mod task;
 mod wanting;
 
+pub use bursting::Steps;
 pub use course::Course;
 pub use emulating::Emulation;
 pub use entering::Entry;

@@ -216,6 +216,7 @@ impl Devs {
     }
 
     /// Whether input waits once what has come after so many own steps has joined the queue.
+    #[inline(always)]
     pub fn waits_at(&self, steps: u64) -> bool
         ensures { result ≡ input_waits (with_arrived steps self.now.state.page) }
     {

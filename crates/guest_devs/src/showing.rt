@@ -71,7 +71,7 @@ impl Devs {
 
     /// The input whose time has come after so many own steps joins the queue, and the line of the input shows whether input
     /// waits.
-    #[inline]
+    #[inline(always)]
     pub fn join_by(&mut self, vcpus: &mut [Vcpu], steps: u64)
         requires some { 0 < length vcpus.old }
         requires agree { Agree self.old.state vcpus.old }

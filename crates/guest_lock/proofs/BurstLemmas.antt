@@ -1,20 +1,23 @@
 -- Bursts grow by turns.
-use Rattle.std.proofs.Common.{◌≡◌, ℕ, ◌+◌, ◌≤◌, List, [], ◌∷◌, ◌++◌, refl, sym, ap, ◌∙◌, subst, append_assoc, Option, Some, None, Result, Ok, Err, inl, inr, unwrap_or, arith}
+use Rattle.std.proofs.Common.{◌≡◌, ℕ, zero, suc, replicate, ◌+◌, ◌-◌, ◌<◌, ◌≤◌, min, List, length, [], ◌∷◌, ◌++◌, refl, sym, ap, ◌∙◌, subst, append_assoc, Option, Some, None, Result, Ok, Err, inl, inr, unwrap_or, arith}
 use Rattle.std.specs.declared.alloc.AllocError.{AllocError}
+use Rattle.base_words.specs.declared.ids.ProcId.{ProcId}
 use Rattle.base_words.specs.declared.ids.VcpuId.{VcpuId}
 use Rattle.base_words.specs.declared.events.Event.TheVariants.{Direct, Emulate}
 use Rattle.shootdown.specs.declared.notes.Note.{Note}
 use Rattle.shootdown.specs.declared.notes.Note.TheVariants.{Made}
-use Rattle.shootdown.specs.Notes.{Token}
+use Rattle.shootdown.specs.Notes.{Token, with_side}
+use Rattle.isolation_law.specs.GuestState.{processor}
+use Rattle.guest_core.specs.GuestView.{Monitored}
 use Rattle.guest_core.specs.declared.answers.Turn.{Turn}
 use Rattle.guest_core.specs.declared.answers.Turn.TheVariants as turn
-use Rattle.guest_core.specs.GuestCalls.{processor_of, told_of_turn}
+use Rattle.guest_core.specs.GuestCalls.{processor_of, loaded_on, told_of_turn}
 use Rattle.guest_lock.specs.declared.burst.Burst.{Burst}
 use Rattle.guest_lock.specs.declared.burst.Stop.{Stop}
 use Rattle.guest_lock.specs.declared.burst.Stop.TheVariants as stop
-use Rattle.guest_lock.specs.Told.{with_told, shown, vcpu_shown, told_of_stop, AreSteps, Bursts}
-use Rattle.guest_lock.specs.Counted.{counted, none_made, joined, goes_on, resumed}
-use Rattle.guest_core.specs.Noting.{loaded_by}
+use Rattle.guest_lock.specs.Told.{with_told, shown, vcpu_shown, told_of_stop, AreInStep, AreSteps, Bursts}
+use Rattle.guest_lock.specs.Counted.{counted, none_made, joined, goes_on, resumed, GoesOnTo}
+use Rattle.guest_core.specs.Noting.{loaded_by, shows_loaded}
 use Rattle.guest_lock.proofs.Notes.{append-none, with_told-none, with_told-more, steps-append, steps-loaded, shown-steps, shown-told, loaded_by-append}
 
 -- what a burst that goes on was told is its steps
@@ -143,3 +146,52 @@ Bursts-waited old new g b bursts = record {
   steps = bursts.steps;
   token = bursts.token ∙ ap (λ l. with_told old g (bursts.made ++ l)) (told-on (vcpu_shown g old) b.stop);
 }
+
+-- ---- steps that the processor makes by itself
+
+are-steps : (p : ProcId) (v : VcpuId) (n : ℕ) → AreSteps p v n (replicate n (Made (Direct p v)))
+are-steps p v zero = tt
+are-steps p v (suc n) = (inl refl, are-steps p v n)
+
+pub Bursts-steps : (old : Token) (g n : ℕ) (new : Token) → new ≡ with_told old g (replicate n (Made (Direct (processor_of old) (vcpu_shown g old)))) → Bursts old g (record { turns = n; steps = n; stop = stop.Paused }) new
+Bursts-steps old g n new token =
+    let made : List Note = replicate n (Made (Direct (processor_of old) (vcpu_shown g old))) in
+    record { made = made; steps = are-steps (processor_of old) (vcpu_shown g old) n; token = token ∙ ap (with_told old g) (sym (append-none made)) }
+
+-- what is loaded is what the token shows, where it is in step
+pub loaded-shown : (g : ℕ) (guest : Monitored) (token : Token) → guest.number ≡ g → AreInStep token guest
+    → ((p : ℕ) → p < length guest.start.around.processors → shows_loaded (with_side p guest.notes) ≡ (processor guest.state p).loaded) → token.number < length guest.start.around.processors
+    → loaded_on guest token ≡ vcpu_shown g token
+loaded-shown g guest token number in_step tells there =
+    ap (λ (o : Option ℕ). record { 0 = unwrap_or o 0 })
+    (sym (tells token.number there) ∙ ap shows_loaded (sym in_step) ∙ ap (λ (n : ℕ). shows_loaded (with_side n token.notes)) number)
+
+-- ---- a burst so far
+
+pub record Goes (start : Token) (g steps : ℕ) (b : Burst) (token : Token) (guest : Monitored) : Type 0 where
+  pub told : Bursts start g b token
+  pub turns : b.turns ≤ 64
+  pub fewer : b.steps ≤ b.turns
+  pub few : b.steps ≤ steps
+  pub in_step : AreInStep token guest
+
+pub goes-as : (start : Token) (g steps : ℕ) (b other : Burst) (token same : Token) (guest like : Monitored) → b ≡ other → token ≡ same → guest ≡ like → Goes start g steps other same like → Goes start g steps b token guest
+goes-as start g steps b other token same guest like is_b is_token is_guest goes =
+    subst (λ (x : Burst). Goes start g steps x token guest) (sym is_b)
+    (subst (λ (t : Token). Goes start g steps other t guest) (sym is_token) (subst (λ (m : Monitored). Goes start g steps other same m) (sym is_guest) goes))
+
+-- steps that the processor makes by itself, as many as are left
+pub goes-ahead : (start mid new : Token) (g steps most : ℕ) (b next : Burst) (guest after : Monitored) → Goes start g steps b mid guest → GoesOnTo steps b → most ≡ min (steps - b.steps) (64 - b.turns)
+    → next.steps ≤ most → next.turns ≡ next.steps → Bursts mid g next new → AreInStep new after → Goes start g steps (joined b next) new after
+goes-ahead start mid new g steps most b next guest after goes on is_most few same more in_step =
+    let turns = goes.turns in
+    let fewer = goes.fewer in
+    let left = on.left in
+    let some = on.fewer in
+    record {
+      told = Bursts-join start mid new g b next on.paused goes.told more;
+      turns = omega arith;
+      fewer = omega arith;
+      few = omega arith;
+      in_step = in_step;
+    }

@@ -1,5 +1,5 @@
 -- A failure under one guest's lock after another.
-use Rattle.std.proofs.Common.{◌≡◌, ℕ, suc, ◌+◌, ◌≤◌, ◌<◌, min, Bool, true, false, List, [], ◌∷◌, ◌++◌, map, length, length-append, append_assoc, append-nil, refl, sym, ap, ◌∙◌, subst, arith}
+use Rattle.std.proofs.Common.{◌≡◌, ◌⊎◌, inl, inr, ℕ, suc, ◌+◌, ◌≤◌, ◌<◌, min, Bool, true, false, List, [], ◌∷◌, ◌++◌, map, length, length-append, append_assoc, append-nil, refl, sym, ap, ◌∙◌, subst, arith}
 use Rattle.std.specs.Prelude.{nat_lt}
 use Rattle.base_words.specs.declared.ids.CellId.{CellId}
 use Rattle.base_words.specs.declared.ids.GuestId.{GuestId}
@@ -7,7 +7,7 @@ use Rattle.shootdown.specs.declared.notes.Note.{Note}
 use Rattle.shootdown.specs.declared.view.SidedNote.{SidedNote}
 use Rattle.shootdown.specs.Notes.{Token, sided}
 use Rattle.guest_core.specs.declared.answers.Fate.{Fate}
-use Rattle.guest_lock.specs.Fates.{AreToldFates, ended_by, ended_from, FailsFirst, FailsOne, FailsNext, IsToldFate}
+use Rattle.guest_lock.specs.Fates.{AreToldFates, ended_by, ended_from, FailsFirst, FailsOne, FailsNext, FailsSome, WantsAt, IsToldFate}
 use Rattle.guest_lock.specs.Told.{with_told}
 
 fates-more : (c : CellId) (g : ℕ) (fates : List Fate) (notes : List SidedNote) (fate : Fate) (told : List Note) → AreToldFates c g fates notes → IsToldFate c fate told → AreToldFates c g (fates ++ fate ∷ []) (notes ++ map (sided (g + length fates)) told)
@@ -73,3 +73,18 @@ fails-next c count g old mid new ended ended_after first next = by (nat_lt g cou
           token = n.token ∙ ap (λ (t : Token). with_told t g n.told) first.token ∙ ap (λ (l : List SidedNote). record old { notes = l }) (append_assoc old.notes first.told (map (sided g) n.told));
           ended_are = n.ended_are ∙ ap (λ (l : List GuestId). l ++ ended_by g n.fate) first.ended_are ∙ ap (λ (k : ℕ). ended_from 0 first.fates ++ ended_by k n.fate) (sym here) ∙ sym (ended-more 0 first.fates n.fate);
         }
+
+below : (n k : ℕ) → k < n → nat_lt k n ≡ true
+below n k l = grind arith
+
+-- memory was wanting at the guest of the next number
+pub fails-some : (c : CellId) (count g : ℕ) (old mid new : Token) (ended : List GuestId) → FailsFirst c (min g count) old mid ended → WantsAt c count g mid new → FailsSome c count old new
+fails-some c count g old mid new ended first wants = by wants.1
+  where
+    by : (new ≡ mid) ⊎ ((fate : Fate) × (told : List Note) × IsToldFate c fate told × (new ≡ with_told mid g told)) → FailsSome c count old new
+    by (inl same) = (min g count, ended, (let e : min g count ≤ count = omega arith in e), subst (λ (t : Token). FailsFirst c (min g count) old t ended) (sym same) first)
+    by (inr had) =
+        let ended_after : List GuestId = ended ++ ended_by g had.0 in
+        let one : FailsOne true c g mid ended new ended_after = record { fate = had.0; told = had.1; is = had.2; token = had.3; ended_are = refl } in
+        let next : FailsNext c count g mid ended new ended_after = subst (λ b. FailsOne b c g mid ended new ended_after) (sym (below count g wants.0)) one in
+        (min (g + 1) count, ended_after, (let e : min (g + 1) count ≤ count = omega arith in e), fails-next c count g old mid new ended ended_after first next)

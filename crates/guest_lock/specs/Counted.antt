@@ -1,5 +1,5 @@
 -- Turns, counted.
-use Rattle.std.specs.Prelude.{◌+◌, ◌-◌, ◌^◌, min, Some, None, Result, Ok, Err}
+use Rattle.std.specs.Prelude.{◌≡◌, ℕ, ◌<◌, ◌+◌, ◌-◌, ◌^◌, min, Some, None, Result, Ok, Err}
 use Rattle.std.specs.declared.alloc.AllocError.{AllocError}
 use Rattle.guest_core.specs.declared.answers.Turn.{Turn}
 use Rattle.guest_core.specs.declared.answers.Turn.TheVariants as turn
@@ -37,3 +37,9 @@ goes_on stop.Memory = stop.Memory
 
 abbrev pub resumed : Burst → Burst
 resumed b = record b { stop = goes_on b.stop }
+
+-- a burst for so many steps, of 64 turns at most, goes on
+pub record GoesOnTo (steps : ℕ) (b : Burst) : Type 0 where
+  pub paused : b.stop ≡ stop.Paused
+  pub fewer : b.steps < steps
+  pub left : b.turns < 64

@@ -1,5 +1,5 @@
 -- What becomes of the guests of a run where a cell fails, one after another, and what a token is told of it.
-use Rattle.std.specs.Prelude.{◌≡◌, ◌≢◌, ◌⊎◌, ℕ, suc, Bool, true, false, nat_lt, List, [], ◌∷◌, ◌++◌, length, map, Result, Ok, Err}
+use Rattle.std.specs.Prelude.{◌≡◌, ◌≢◌, ◌⊎◌, ◌<◌, ◌≤◌, ℕ, suc, Bool, true, false, nat_lt, List, [], ◌∷◌, ◌++◌, length, map, Result, Ok, Err}
 use Rattle.std.specs.declared.alloc.AllocError.{AllocError}
 use Rattle.base_words.specs.declared.events.End.{End}
 use Rattle.base_words.specs.declared.events.End.TheVariants.{CellFailed}
@@ -68,3 +68,11 @@ FailsOne false c g old ended new ended_after = (new ≡ old) × (ended_after ≡
 -- a failure under the lock of the guest of this number, where the run has one; none has another number
 abbrev pub FailsNext : CellId → ℕ → ℕ → Token → List GuestId → Token → List GuestId → Type 0
 FailsNext c count g old ended new ended_after = FailsOne (nat_lt g count) c g old ended new ended_after
+
+-- memory was wanting at the guest of this number: it has had the failure, or it hasn't
+abbrev pub WantsAt : CellId → ℕ → ℕ → Token → Token → Type 0
+WantsAt c count g old new = (g < count) × ((new ≡ old) ⊎ ((fate : Fate) × (told : List Note) × IsToldFate c fate told × (new ≡ with_told old g told)))
+
+-- memory was wanting: some guests, the first ones, have had the failure, and the others haven't
+abbrev pub FailsSome : CellId → ℕ → Token → Token → Type 0
+FailsSome c count old new = (some : ℕ) × (ended : List GuestId) × (some ≤ count) × FailsFirst c some old new ended

@@ -1,7 +1,7 @@
 //! What a burst of turns did.
-ghost use Rattle.std.specs.Prelude.{◌≡◌, ◌+◌, ◌<◌, ◌^◌};
+ghost use Rattle.std.specs.Prelude.{◌≡◌, ◌↔◌, ◌+◌, ◌<◌, ◌^◌, IsTrue};
 ghost use Rattle.std.specs.declared.alloc.AllocError.{AllocError};
-ghost use Rattle.guest_lock.specs.Counted.{counted, none_made, joined, resumed};
+ghost use Rattle.guest_lock.specs.Counted.{counted, none_made, joined, resumed, GoesOnTo};
 
 use base_words::{End, Ppn};
 use guest_core::Turn;
@@ -64,6 +64,14 @@ impl Burst {
             Ok(Turn::GuestEnded(end)) => self.stop = Stop::GuestEnded(end),
             Err(_) => self.stop = Stop::Memory,
         }
+    }
+
+    /// Whether a burst for so many steps goes on.
+    #[inline]
+    pub(crate) fn goes_on(&self, steps: u64) -> bool
+        ensures { IsTrue result ↔ GoesOnTo steps self.now }
+    {
+        self.stop == Stop::Paused && self.steps < steps && self.turns < BURST_TURNS
     }
 
     /// The same burst, which goes on after a wait for a move.

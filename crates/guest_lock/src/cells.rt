@@ -1,11 +1,11 @@
 //! The guests of a run, each under its lock.
-ghost use Rattle.std.specs.Prelude.{◌+◌, ◌≤◌, OnOk, IfOk, length, ◌≡◌, ◌<◌};
+ghost use Rattle.std.specs.Prelude.{◌+◌, ◌≤◌, OnOk, OnErr, IfOk, length, ◌≡◌, ◌<◌};
 ghost use Rattle.std.specs.Vec.Iter.{into_iter_items};
 ghost use Rattle.guest_lock.specs.Guests.{IsThere, GuestsFrom, GuestsBelow};
 ghost use Rattle.base_words.specs.Limits.{most_cells};
 ghost use Rattle.guest_core.specs.GuestView.{shared_by};
 ghost use Rattle.guest_lock.specs.Fits.{Fits};
-ghost use Rattle.guest_lock.specs.Fates.{FailsFirst, FailsNext};
+ghost use Rattle.guest_lock.specs.Fates.{FailsFirst, FailsNext, FailsSome, WantsAt};
 
 use crate::{GuestCell, Starts};
 use base_words::{CellId, GuestId, GuestList};
@@ -77,6 +77,7 @@ fn fail_one<N: Starts, const G: u8, R: Wait>(
     requires cell { cell.0 < most_cells }
     requires shared { shared_by resources.now ≡ N.shared }
     ensures fails { OnOk result (FailsNext cell (length N.starts) G token.old ended.old token.new ended.new) }
+    ensures wants { OnErr result (WantsAt cell (length N.starts) G token.old token.new) }
     ensures same { (token.new.board ≡ token.old.board) × (token.new.number ≡ token.old.number) }
 {
     if let Some(guest) = there {
@@ -88,7 +89,7 @@ fn fail_one<N: Starts, const G: u8, R: Wait>(
 }
 
 /// A cell fails for each guest of the run, in order, under its lock: the guests that it ends. After want of memory the guests before one
-/// guest have had the event and the others have not.
+/// guest have had the event, the others have not, and the token was told so.
 pub fn fail_all<N: Starts, R: Wait>(
     rt: &R,
     alloc: Global,
@@ -102,6 +103,7 @@ pub fn fail_all<N: Starts, R: Wait>(
     requires cell { cell.0 < most_cells }
     requires shared { shared_by resources.now ≡ N.shared }
     ensures fails { IfOk result (λ ended. FailsFirst cell (length N.starts) token.old token.new ended) }
+    ensures wants { OnErr result (FailsSome cell (length N.starts) token.old token.new) }
     ensures same { (token.new.board ≡ token.old.board) × (token.new.number ≡ token.old.number) }
 {
     let mut ended = GuestList::new(alloc);

@@ -297,6 +297,30 @@ impl<N: Starts, const G: u8> Kept<N, G> {
         turn
     }
 
+    /// Makes steps of what is loaded on the token's processor, at most so many, while each is one that the processor makes by itself and
+    /// nothing else comes first.
+    fn steps_ahead(&mut self, token: &mut ProcToken, most: u64) -> Burst
+        requires token { Fits N.starts N.board token.old }
+        requires in_step { AreInStep token.old self.old.guest }
+        requires loaded { shown G token.old ≢ None }
+        ensures few { result.steps ≤ most }
+        ensures turns { result.turns ≡ result.steps }
+        ensures paused { result.stop ≡ Paused }
+        ensures told { Bursts token.old G result token.new }
+        ensures in_step { AreInStep token.new self.new.guest }
+    {
+        if self.guest.make_room().is_err() || !self.is_quiet(token.number()) {
+            return Burst::new();
+        }
+        self.guest.tells_loaded();
+        let steps = self.guest.steps_ahead(token, most);
+        Burst {
+            turns: steps,
+            steps,
+            stop: Stop::Paused,
+        }
+    }
+
     /// Makes turns until one is neither a step nor a refill, there were so many steps, or there were enough turns.
     pub(crate) fn burst<R: Wait, T: Gate>(
         &mut self,
@@ -317,15 +341,18 @@ impl<N: Starts, const G: u8> Kept<N, G> {
     {
         self.agree(token);
         let mut burst = Burst::new();
-        for turn in 0..BURST_TURNS {
-            if burst.steps == steps || burst.stop != Stop::Paused {
-                break;
+        while burst.goes_on(steps) {
+            if gate.is_free() {
+                let most = (steps - burst.steps).min(BURST_TURNS - burst.turns);
+                burst = burst.then(self.steps_ahead(token, most));
             }
-            let here = GatePoint {
-                turn: at.turn.saturating_add(turn),
-                ..at
-            };
-            burst.count(self.turn(rt, alloc, token, resources, gate, here));
+            if burst.goes_on(steps) {
+                let here = GatePoint {
+                    turn: at.turn.saturating_add(burst.turns),
+                    ..at
+                };
+                burst.count(self.turn(rt, alloc, token, resources, gate, here));
+            }
         }
         burst
     }

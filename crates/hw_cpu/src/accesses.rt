@@ -14,7 +14,7 @@ use base_words::{LoadKind, Register, Regs, StoreKind};
 use mips_alu::{advance, loaded_value, read, stored_word, write};
 
 /// The offset in its page of the word around an address.
-#[inline]
+#[inline(always)]
 fn offset_of(address: u32) -> u32
     ensures offset { result ≡ word_offset (address % 4096) }
     ensures within { result < 4096 }
@@ -25,7 +25,7 @@ fn offset_of(address: u32) -> u32
 }
 
 /// The word around an address.
-#[inline]
+#[inline(always)]
 pub fn word_at<B: Bus>(bus: &B, at: Reached, address: u32) -> u32
     requires { Backs (B.held bus.now) at.page.0 at.frame.0 }
     ensures { result ≡ word_through (B.held bus.now).pages (place_of at) address }
@@ -34,7 +34,7 @@ pub fn word_at<B: Bus>(bus: &B, at: Reached, address: u32) -> u32
 }
 
 /// The line of the guest's memory at an address.
-#[inline]
+#[inline(always)]
 fn line_at(at: Reached, address: u32) -> u32
     requires { at.page.0 < 0xFFFF }
     ensures { result ≡ line_of (place_of at) address }
@@ -43,7 +43,7 @@ fn line_at(at: Reached, address: u32) -> u32
 }
 
 /// Another word around an address, after which no other virtual processor links its line.
-#[inline]
+#[inline(always)]
 fn store_at<B: Bus>(bus: &mut B, at: Reached, address: u32, word: u32)
     requires { BacksAlone (B.held bus.old) at.page.0 at.frame.0 }
     ensures names { B.names bus.new ≡ B.names bus.old }
@@ -56,7 +56,7 @@ fn store_at<B: Bus>(bus: &mut B, at: Reached, address: u32, word: u32)
 }
 
 /// A load, which is passed.
-#[inline]
+#[inline(always)]
 pub fn load<B: Bus>(
     regs: &mut Regs,
     bus: &B,
@@ -76,7 +76,7 @@ pub fn load<B: Bus>(
 }
 
 /// A store.
-#[inline]
+#[inline(always)]
 pub fn store<B: Bus>(bus: &mut B, at: Reached, kind: StoreKind, address: u32, value: u32)
     requires backed { Backs (B.held bus.old) at.page.0 at.frame.0 }
     requires alone { BacksAlone (B.held bus.old) at.page.0 at.frame.0 }
@@ -90,6 +90,7 @@ pub fn store<B: Bus>(bus: &mut B, at: Reached, kind: StoreKind, address: u32, va
 }
 
 /// A linked load, which is passed.
+#[cold]
 pub fn load_linked<B: Bus>(
     regs: &mut Regs,
     bus: &mut B,
@@ -120,6 +121,7 @@ fn is_line(link: Option<u32>, line: u32) -> bool
 }
 
 /// A conditional store, which is passed, and whether it was made.
+#[cold]
 pub fn store_conditional<B: Bus>(
     regs: &mut Regs,
     bus: &mut B,

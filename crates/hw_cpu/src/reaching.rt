@@ -39,14 +39,14 @@ pub struct Mode {
 }
 
 /// Whether an address lies in the mode's ranges.
-#[inline]
+#[inline(always)]
 fn is_in_range(user: bool, address: u32) -> bool
     ensures { result ≡ is_within (segment user address) }
 {
     address < 0x8000_0000 || !user && 0xC000_0000 <= address && address < 0xE000_0000
 }
 
-#[inline]
+#[inline(always)]
 fn is_store(purpose: Use) -> bool
     ensures { result ≡ is_store_of purpose }
 {
@@ -57,7 +57,7 @@ fn is_store(purpose: Use) -> bool
 }
 
 /// By the half that matches. A frame that is dead counts before a half that isn't writable.
-#[inline]
+#[inline(always)]
 fn find<B: Bus>(
     mode: Mode,
     tlb: &HwTlb,
@@ -90,7 +90,7 @@ fn find<B: Bus>(
 }
 
 /// The page and the frame that an access reaches, whose address has to be a multiple of `unit`; or why it reaches none.
-#[inline]
+#[inline(always)]
 pub fn reach<B: Bus>(
     mode: Mode,
     tlb: &HwTlb,

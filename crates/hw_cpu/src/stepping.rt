@@ -22,7 +22,7 @@ use mips_isa::decode;
 const COPROCESSOR_0: u32 = 16;
 
 /// Whether a word is of coprocessor 0.
-#[inline]
+#[inline(always)]
 fn is_privileged(word: u32) -> bool
     ensures { result ≡ is_privileged_of word }
 {
@@ -30,6 +30,7 @@ fn is_privileged(word: u32) -> bool
 }
 
 /// Why a fetch traps.
+#[cold]
 fn fetch_cause(lack: Lack) -> TrapCause
     ensures { (w : Wanted) → result ≡ cause_of (fetch_trap w (want_of lack)) }
 {
@@ -41,6 +42,7 @@ fn fetch_cause(lack: Lack) -> TrapCause
 }
 
 /// Why the data access of an instruction's word traps.
+#[cold]
 fn data_cause(word: u32, lack: Lack) -> TrapCause
     ensures { (w : Wanted) → result ≡ cause_of (data_trap word w (want_of lack)) }
 {
@@ -53,7 +55,7 @@ fn data_cause(word: u32, lack: Lack) -> TrapCause
 }
 
 /// A step that was made, with its data access.
-#[inline]
+#[inline(always)]
 fn direct(fetched: Reached, access: DataAccess) -> HwStep
     ensures { result ≡ Direct (record { fetched = fetched.frame; «data» = access }) }
 {
@@ -64,7 +66,7 @@ fn direct(fetched: Reached, access: DataAccess) -> HwStep
 }
 
 /// What an instruction asked of memory. A word of coprocessor 0 never comes here.
-#[inline]
+#[inline(always)]
 fn access<B: Bus>(
     regs: &mut Regs,
     mode: Mode,
@@ -156,6 +158,7 @@ fn access<B: Bus>(
 }
 
 /// The access of a conditional store; one that isn't made is told as a load.
+#[cold]
 fn conditional(made: bool, at: Reached) -> DataAccess
     ensures { result ≡ (if made then store_told (place_of at) else load_told (place_of at)) }
 {
@@ -168,7 +171,7 @@ fn conditional(made: bool, at: Reached) -> DataAccess
 }
 
 /// The instruction that was fetched.
-#[inline]
+#[inline(always)]
 fn decide<B: Bus>(
     regs: &mut Regs,
     mode: Mode,
@@ -193,6 +196,7 @@ fn decide<B: Bus>(
 
 /// Makes one step, or tells why the processor traps, and then nothing changes. `line` tells whether an interrupt is enabled
 /// and pending.
+#[inline(always)]
 pub fn step<B: Bus>(
     regs: &mut Regs,
     user: bool,

@@ -16,6 +16,3 @@ pub use law::accepted;
 use place::Place;
 pub use reader::read_litmus;
 use section::Section;
-
-#[cfg(test)]
-mod tests;

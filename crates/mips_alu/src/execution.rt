@@ -33,7 +33,6 @@ fn put(regs: &mut Regs, register: Register, out: AluOut) -> Result<Request, Exce
 }
 
 /// A trap is raised where its condition holds.
-#[inline(always)]
 fn trap(regs: &mut Regs, raised: bool) -> Result<Request, Exception>
     ensures { Executes (trapped raised regs.old) regs.old regs.new result }
 {
@@ -102,7 +101,6 @@ fn jump(regs: &mut Regs, target: u32) -> Result<Request, Exception>
 }
 
 /// A jump that leaves where it returns to in a register; in a delay slot it is reserved.
-#[inline(always)]
 fn jump_and_link(regs: &mut Regs, register: Register, target: u32) -> Result<Request, Exception>
     ensures { Executes (leads regs.old.slot (to_slot (linked regs.old register) target)) regs.old regs.new result }
 {
@@ -123,7 +121,6 @@ fn branch(regs: &mut Regs, taken: bool, untaken: Untaken, offset: u16) -> Result
 }
 
 /// A branch that leaves where it returns to in register 31, taken or not; in a delay slot it is reserved.
-#[inline(always)]
 fn branch_and_link(
     regs: &mut Regs,
     taken: bool,
@@ -185,7 +182,6 @@ fn return_register() -> Register
 }
 
 /// An instruction of the TLB, or the return from an exception, which is reserved in a delay slot.
-#[inline(always)]
 fn system(regs: &Regs, op: Cp0Op) -> Result<Request, Exception>
     ensures { Executes (system_of op regs.now) regs.now regs.now result }
 {

@@ -56,7 +56,7 @@ fn keep_details(registers: &mut Cp0Registers, told: Details)
 }
 
 /// Random after a step: it counts down to Wired, and then begins again.
-#[inline]
+#[inline(always)]
 fn next_random(random: EntryNumber, wired: EntryNumber) -> EntryNumber
     ensures { result ≡ next_random_of random wired }
 {
@@ -130,7 +130,7 @@ impl Cp0 {
     }
 
     /// A step is done: Random and Count move on, and the timer interrupts where Count comes to Compare.
-    #[inline]
+    #[inline(always)]
     pub fn tick(&mut self)
         ensures { self.new ≡ ticked self.old }
     {
@@ -142,7 +142,7 @@ impl Cp0 {
     }
 
     /// Whether an interrupt is enabled and pending.
-    #[inline]
+    #[inline(always)]
     pub fn pending(&self) -> bool
         ensures { result ≡ interrupts self.now }
     {
@@ -153,7 +153,7 @@ impl Cp0 {
     }
 
     /// Whether an interrupt would be enabled and pending with IP2, for input, on or off.
-    #[inline]
+    #[inline(always)]
     pub fn pending_with_input(&self, waits: bool) -> bool
         ensures { result ≡ interrupts (line_set self.now 2 waits) }
     {
@@ -164,7 +164,7 @@ impl Cp0 {
     }
 
     /// Whether user code runs, and no exception is being handled.
-    #[inline]
+    #[inline(always)]
     pub fn is_user(&self) -> bool
         ensures { result ≡ in_user_mode self.now.status }
     {
@@ -172,7 +172,7 @@ impl Cp0 {
     }
 
     /// The address space of what runs (ASID).
-    #[inline]
+    #[inline(always)]
     pub fn asid(&self) -> u8
         ensures { result ≡ self.now.entry_hi.asid }
     {

@@ -14,6 +14,9 @@ pub struct GatePoint {
 /// Is passed once in each turn, while the guest's lock is held. It changes nothing of the monitor.
 pub trait Gate: Sync {
     fn pass(&self, at: GatePoint);
+
+    /// Whether it lets every turn pass, so that many may be made at once without it.
+    fn is_free(&self) -> bool;
 }
 
 /// A gate that lets every turn pass.
@@ -22,4 +25,8 @@ pub struct FreeGate;
 
 impl Gate for FreeGate {
     fn pass(&self, _at: GatePoint) {}
+
+    fn is_free(&self) -> bool {
+        true
+    }
 }

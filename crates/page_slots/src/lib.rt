@@ -20,6 +20,3 @@ pub use closing::close;
 pub use crossing::cross_threads;
 pub use op::{Litmus, Op, OpList, OpLists};
 pub use slots::PageSlots;
-
-#[cfg(test)]
-mod tests;

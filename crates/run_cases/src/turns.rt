@@ -186,4 +186,8 @@ impl Gate for Delaying {
             self.waste.load(Ordering::Relaxed);
         }
     }
+
+    fn is_free(&self) -> bool {
+        false
+    }
 }

@@ -12,6 +12,3 @@ pub use alone::{Alone, AloneList};
 pub use made_text::render_made;
 pub use rendering::{render, render_alone};
 pub use sums::{Sums, sums_of};
-
-#[cfg(test)]
-mod tests;

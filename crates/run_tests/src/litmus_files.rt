@@ -165,6 +165,10 @@ impl Gate for Holding {
             }
         }
     }
+
+    fn is_free(&self) -> bool {
+        false
+    }
 }
 
 #[test]

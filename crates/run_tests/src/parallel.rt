@@ -42,6 +42,10 @@ impl Gate for Counting {
     fn pass(&self, _at: GatePoint) {
         self.turns.fetch_add(1, Ordering::Relaxed);
     }
+
+    fn is_free(&self) -> bool {
+        false
+    }
 }
 
 /// Holds processor 0's first turn on guest 0 until processor 1 has had a turn on guest 1, or until it has looked often enough.
@@ -67,6 +71,10 @@ impl Gate for Meeting {
                 }
             }
         }
+    }
+
+    fn is_free(&self) -> bool {
+        false
     }
 }
 

@@ -1,5 +1,5 @@
 -- Lists of notes, and how often an owner's stands among them.
-use Rattle.std.proofs.Common.{◌≡◌, ◌≢◌, ℕ, zero, suc, ◌+◌, ◌≤◌, ◌==◌, if◌then◌else◌, true, false, List, [], ◌∷◌, ◌++◌, set, refl, sym, ap, ◌∙◌, arith, eq-eqb, ne_eqb, zero-add}
+use Rattle.std.proofs.Common.{◌≡◌, ◌≢◌, ℕ, zero, suc, ◌+◌, ◌≤◌, ◌==◌, if◌then◌else◌, true, false, List, [], ◌∷◌, ◌++◌, map, set, refl, sym, ap, ◌∙◌, arith, eq-eqb, ne_eqb, zero-add}
 use Rattle.std.proofs.lemmas.List.{append-nil}
 use mathlib.Core.Option.{some-injective, some-ne-none}
 use Rattle.shootdown.specs.Notes.{sided, with_side}
@@ -64,9 +64,22 @@ with_side-one k n = ap (λ b. if b then n ∷ [] else []) (eq-eqb k k refl)
 pub with_side-none : (k o : ℕ) (n : Note) → o ≢ k → with_side k (sided o n ∷ []) ≡ []
 with_side-none k o n apart = ap (λ b. if b then n ∷ [] else []) (ne_eqb o k apart)
 
--- one note more, with this side and with another
-pub with_side-own : (k : ℕ) (n : Note) (xs : List SidedNote) → with_side k (xs ++ sided k n ∷ []) ≡ with_side k xs ++ n ∷ []
-with_side-own k n xs = with_side-append k xs (sided k n ∷ []) ∙ ap (λ l. with_side k xs ++ l) (with_side-one k n)
+-- many notes, with this side and with another
+with_side-all : (k : ℕ) (ns : List Note) → with_side k (map (sided k) ns) ≡ ns
+with_side-all k [] = refl
+with_side-all k (n ∷ ns) =
+    let rest = with_side-all k ns in
+    ap (λ b. if b then n ∷ with_side k (map (sided k) ns) else with_side k (map (sided k) ns)) (eq-eqb k k refl) ∙ ap (λ ms. n ∷ ms) rest
 
-pub with_side-else : (k o : ℕ) (n : Note) (xs : List SidedNote) → o ≢ k → with_side k (xs ++ sided o n ∷ []) ≡ with_side k xs
-with_side-else k o n xs apart = with_side-append k xs (sided o n ∷ []) ∙ ap (λ l. with_side k xs ++ l) (with_side-none k o n apart) ∙ append-nil (with_side k xs)
+with_side-of_none : (k o : ℕ) (ns : List Note) → o ≢ k → with_side k (map (sided o) ns) ≡ []
+with_side-of_none k o [] apart = refl
+with_side-of_none k o (n ∷ ns) apart =
+    let rest = with_side-of_none k o ns apart in
+    ap (λ b. if b then n ∷ with_side k (map (sided o) ns) else with_side k (map (sided o) ns)) (ne_eqb o k apart) ∙ rest
+
+-- so many notes more, with this side and with another
+pub with_side-own : (k : ℕ) (ns : List Note) (xs : List SidedNote) → with_side k (xs ++ map (sided k) ns) ≡ with_side k xs ++ ns
+with_side-own k ns xs = with_side-append k xs (map (sided k) ns) ∙ ap (λ l. with_side k xs ++ l) (with_side-all k ns)
+
+pub with_side-else : (k o : ℕ) (ns : List Note) (xs : List SidedNote) → o ≢ k → with_side k (xs ++ map (sided o) ns) ≡ with_side k xs
+with_side-else k o ns xs apart = with_side-append k xs (map (sided o) ns) ∙ ap (λ l. with_side k xs ++ l) (with_side-of_none k o ns apart) ∙ append-nil (with_side k xs)

@@ -1,5 +1,5 @@
 -- Each kind of step keeps the rule of the board.
-use Rattle.std.proofs.Common.{◌≡◌, ◌≢◌, ℕ, zero, suc, List, [], ◌∷◌, ◌++◌, get_or, refl, sym, ap, ◌∙◌, subst}
+use Rattle.std.proofs.Common.{◌≡◌, ◌≢◌, ℕ, zero, suc, List, [], ◌∷◌, ◌++◌, map, get_or, refl, sym, ap, ◌∙◌, subst}
 use mathlib.Core.Logic.{dite}
 use mathlib.Core.Option.{some, none, some-injective, some-ne-none}
 use native.Mathlib.Decide.{ℕ_discrete}
@@ -75,29 +75,29 @@ loads slots id me s k homes at range = (me.0, keeps, tt, same, (refl, agrees s i
       agree = k.agree;
     }
 
--- a note goes into both lists
-keeps_note : (s : State (Unit {0}) View) (id p g : ℕ) (n : Note) (xs ys : List SidedNote) (cs : List (ℕ × Unit {0})) → AllAgree s → IsView s.views id (pair p xs g ys)
-    → AllAgree (stepped s 0 (get_or s.words 0 0) id cs (pair p (xs ++ sided g n ∷ []) g (ys ++ sided p n ∷ [])) keeps)
-keeps_note s id p g n xs ys cs k at = record {
+-- notes go into both lists
+keeps_notes : (s : State (Unit {0}) View) (id p g : ℕ) (ns : List Note) (xs ys : List SidedNote) (cs : List (ℕ × Unit {0})) → AllAgree s → IsView s.views id (pair p xs g ys)
+    → AllAgree (stepped s 0 (get_or s.words 0 0) id cs (pair p (xs ++ map (sided g) ns) g (ys ++ map (sided p) ns)) keeps)
+keeps_notes s id p g ns xs ys cs k at = record {
   of_tokens = of_tokens;
   of_seats = of_seats;
   tokens = stand_noted tokens_in k.of_tokens s.views id (pair p xs g ys) (pair p xs' g ys') p xs xs' k.tokens at refl refl;
   seats = stand_noted seats_in k.of_seats s.views id (pair p xs g ys) (pair p xs' g ys') g ys ys' k.seats at refl refl;
   agree = λ q h. dite (ℕ_discrete q p)
       (λ e. dite (ℕ_discrete h g)
-      (λ f. token_here q h e ∙ subst (λ m. with_side m xs' ≡ with_side g xs ++ n ∷ []) (sym f) (with_side-own g n xs) ∙ ap (λ l. l ++ n ∷ []) mine
-      ∙ sym (seat_here q h f ∙ subst (λ m. with_side m ys' ≡ with_side p ys ++ n ∷ []) (sym e) (with_side-own p n ys)))
-      (λ f. token_here q h e ∙ with_side-else h g n xs (λ x. f (sym x)) ∙ ap (with_side h) (xs_is ∙ ap k.of_tokens (sym e)) ∙ k.agree q h ∙ sym (seat_else q h f)))
+      (λ f. token_here q h e ∙ subst (λ m. with_side m xs' ≡ with_side g xs ++ ns) (sym f) (with_side-own g ns xs) ∙ ap (λ l. l ++ ns) mine
+      ∙ sym (seat_here q h f ∙ subst (λ m. with_side m ys' ≡ with_side p ys ++ ns) (sym e) (with_side-own p ns ys)))
+      (λ f. token_here q h e ∙ with_side-else h g ns xs (λ x. f (sym x)) ∙ ap (with_side h) (xs_is ∙ ap k.of_tokens (sym e)) ∙ k.agree q h ∙ sym (seat_else q h f)))
       (λ e. dite (ℕ_discrete h g)
-      (λ f. token_else q h e ∙ k.agree q h ∙ ap (with_side q) (sym (ys_is ∙ ap k.of_seats (sym f))) ∙ sym (seat_here q h f ∙ with_side-else q p n ys (λ x. e (sym x))))
+      (λ f. token_else q h e ∙ k.agree q h ∙ ap (with_side q) (sym (ys_is ∙ ap k.of_seats (sym f))) ∙ sym (seat_here q h f ∙ with_side-else q p ns ys (λ x. e (sym x))))
       (λ f. token_else q h e ∙ k.agree q h ∙ sym (seat_else q h f)));
 }
   where
     xs' : List SidedNote
-    xs' = xs ++ sided g n ∷ []
+    xs' = xs ++ map (sided g) ns
 
     ys' : List SidedNote
-    ys' = ys ++ sided p n ∷ []
+    ys' = ys ++ map (sided p) ns
 
     of_tokens : ByOwner
     of_tokens = instead k.of_tokens p xs'
@@ -126,7 +126,7 @@ keeps_note s id p g n xs ys cs k at = record {
     mine : with_side g xs ≡ with_side p ys
     mine = ap (with_side g) xs_is ∙ k.agree p g ∙ ap (with_side p) (sym ys_is)
 
-pub adds : (slots id : ℕ) (n : Note) (me : Own) → IsPair me.0 → Allows AllAgree slots id me 0 (λ m. m) (Added n (step slots 0 0 0 none) me)
-adds slots id n me is s k homes at range =
+pub adds : (slots id : ℕ) (ns : List Note) (me : Own) → IsPair me.0 → Allows AllAgree slots id me 0 (λ m. m) (Added ns (step slots 0 0 0 none) me)
+adds slots id ns me is s k homes at range =
     let v = me.0 in
-    (noted n v, keeps, tt, keeps_note s id (owner_in v.tokens) (owner_in v.seats) n (notes_in v.tokens) (notes_in v.seats) me.1 k (at ∙ ap some is), refl)
+    (noted ns v, keeps, tt, keeps_notes s id (owner_in v.tokens) (owner_in v.seats) ns (notes_in v.tokens) (notes_in v.seats) me.1 k (at ∙ ap some is), refl)

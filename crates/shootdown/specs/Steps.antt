@@ -1,11 +1,10 @@
 -- What each kind of step does to the lists of the place that makes it, and what it tells.
-use Rattle.std.specs.Prelude.{◌≡◌, ℕ, List, [], ◌∷◌, ◌++◌}
+use Rattle.std.specs.Prelude.{◌≡◌, ℕ, List, [], ◌∷◌, ◌++◌, map}
 use mathlib.Core.Option.{some}
 use lib.ListN.{get_elem?}
 use Rattle.atomic_table.specs.Table.{Me, Step}
 use Rattle.shootdown.specs.Notes.{Token, Seat, sided, with_side}
 use Rattle.shootdown.specs.declared.notes.Note.{Note}
-use Rattle.shootdown.specs.declared.notes.Note.TheVariants.{Halted}
 use Rattle.shootdown.specs.declared.view.SidedNote.{SidedNote}
 use Rattle.shootdown.specs.declared.view.NoteList.{NoteList}
 use Rattle.shootdown.specs.declared.view.View.{View}
@@ -76,20 +75,16 @@ pair p xs g ys = record { tokens = list_of p xs ∷ []; seats = list_of g ys ∷
 abbrev pub IsPair : View → Type 0
 IsPair v = v ≡ pair (owner_in v.tokens) (notes_in v.tokens) (owner_in v.seats) (notes_in v.seats)
 
--- the same with one note more, in both lists
-abbrev pub noted : Note → View → View
-noted note v =
+-- the same with these notes more, in both lists
+abbrev pub noted : List Note → View → View
+noted notes v =
     let p = owner_in v.tokens in
     let g = owner_in v.seats in
-    pair p (notes_in v.tokens ++ sided g note ∷ []) g (notes_in v.seats ++ sided p note ∷ [])
+    pair p (notes_in v.tokens ++ map (sided g) notes) g (notes_in v.seats ++ map (sided p) notes)
 
--- some note, where none is named
-abbrev pub no_note : Note
-no_note = Halted (record { 0 = 0 })
-
--- a step adds a note to both lists
-abbrev pub Added : Note → Step (Unit {0}) → Own → ℕ → Own → Type 0
-Added note st me found me' = me' ≡ (noted note me.0, me.1)
+-- a step adds notes to both lists
+abbrev pub Added : List Note → Step (Unit {0}) → Own → ℕ → Own → Type 0
+Added notes st me found me' = me' ≡ (noted notes me.0, me.1)
 
 -- all lists of a place agree
 abbrev pub Agrees : View → Type 0

@@ -32,20 +32,21 @@ pub type Word = Shared<(), View, Counts, Agreement>;
 /// One who makes steps on the board, and the lists that it has.
 pub type Place = Seat<(), View>;
 
-/// Names a note.
+/// Names notes.
 pub trait Names {
+    ghost use Rattle.std.specs.Prelude.{List};
     ghost use Rattle.shootdown.specs.declared.notes.Note.{Note};
 
-    ghost named: { Note };
+    ghost named: { List Note };
 }
 
 impl Names for Brand {
-    ghost use Rattle.shootdown.specs.Steps.{no_note};
+    ghost use Rattle.std.specs.Prelude.{[]};
 
-    ghost named = { no_note };
+    ghost named = { [] };
 }
 
-/// The named note goes into both lists of a place that has one token's and one seat's.
+/// The named notes go into both lists of a place that has one token's and one seat's.
 pub struct Adds<W: Names> {
     of: PhantomData<W>,
 }

@@ -1,5 +1,5 @@
 //! A note of a processor and a guest, and the agreement of their lists.
-ghost use Rattle.std.specs.Prelude.{◌≡◌, ◌<◌, ◌++◌, ◌∷◌, []};
+ghost use Rattle.std.specs.Prelude.{◌≡◌, ◌<◌, ◌++◌, ◌∷◌, [], map, replicate};
 ghost use Rattle.shootdown.specs.Notes.{sided, IsInStep};
 ghost use Rattle.shootdown.specs.Steps.{IsPair, both, nothing, tokens_of, seats_of, noted};
 
@@ -35,17 +35,30 @@ fn part(word: &Word, token: &mut Place, seat: &mut Place)
     word.join_seat::<Meets>(seat, moved);
 }
 
-// The note goes into both lists of a place that has one token's and one seat's.
+// The note goes into both lists of a place that has one token's and one seat's, so many times.
 #[inline]
-fn add<W: Names>(word: &Word, place: &mut Place, note: Note)
+fn add<W: Names>(word: &Word, place: &mut Place, note: Note, count: u64)
     requires board { (place.old.table_id ≡ word.now.table_id) × (0 < word.now.table_id.words) }
-    requires named { W.named ≡ note }
+    requires named { W.named ≡ replicate count note }
     requires pair { IsPair place.old.me.0 }
-    ensures added { place.new.me ≡ (noted note place.old.me.0, place.old.me.1) }
+    ensures added { place.new.me ≡ (noted (replicate count note) place.old.me.0, place.old.me.1) }
     ensures board { place.new.table_id ≡ place.old.table_id }
 {
-    let _ = note;
+    let _ = (note, count);
     word.load::<Adds<W>>(place, 0);
+}
+
+/// Adds a note so many times to both lists: to the token's with the seat's guest, to the seat's with the token's processor.
+#[inline]
+pub fn note_many(token: &mut ProcToken, seat: &mut GuestSeat, note: Note, count: u64)
+    requires { seat.old.board ≡ token.old.board }
+    ensures token { token.new ≡ record token.old { notes = token.old.notes ++ map (sided seat.old.number) (replicate count note) } }
+    ensures seat { seat.new ≡ record seat.old { notes = seat.old.notes ++ map (sided token.old.number) (replicate count note) } }
+{
+    let word = &token.board.shared;
+    meet(word, &mut token.place, &mut seat.place);
+    add::<Brand>(word, &mut token.place, note, count);
+    part(word, &mut token.place, &mut seat.place);
 }
 
 /// Adds a note to both lists: to the token's with the seat's guest, to the seat's with the token's processor.
@@ -55,10 +68,7 @@ pub fn note(token: &mut ProcToken, seat: &mut GuestSeat, note: Note)
     ensures token { token.new ≡ record token.old { notes = token.old.notes ++ sided seat.old.number note ∷ [] } }
     ensures seat { seat.new ≡ record seat.old { notes = seat.old.notes ++ sided token.old.number note ∷ [] } }
 {
-    let word = &token.board.shared;
-    meet(word, &mut token.place, &mut seat.place);
-    add::<Brand>(word, &mut token.place, note);
-    part(word, &mut token.place, &mut seat.place);
+    note_many(token, seat, note, 1);
 }
 
 /// Tells that the token's notes with the seat's guest are the seat's notes with the token's processor, in their order.

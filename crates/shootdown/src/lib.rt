@@ -14,7 +14,7 @@ mod token;
 mod view;
 mod waiting;
 
-pub use calls::{agree, note};
+pub use calls::{agree, note, note_many};
 pub use closing::close_notes;
 pub use laws::notes_by_side;
 pub use making::tokens;

@@ -1,0 +1,118 @@
+#!/usr/bin/env python3
+"""What a step costs, alone and under the monitor, as ratios of one run. It is no test and has no limit.
+
+    steps.py DISCO [--other PROGRAM] [--times N] [--count]
+
+The guests are those of guests/: sha (sums and shifts, few loads), walk (a load and a store of each of 40 pages in turn, through the TLB), stores
+(eight steps of eleven are stores) and spaces (four address spaces take turns); and loop, a jump to itself. Prints for each how many million
+steps a second it makes alone and monitored, and how many times as long a step takes under the monitor; how many times as long 2 and 4 guests on
+as many processors take as one does; and the peak memory of 16,000,000 steps of loop. With --other, a program with the same command line, that
+one runs in turns with the first, and its time counts as a multiple. Each is run N times (3), and the shortest counts. With --count, the
+host's instructions a step, counted by valgrind over 100,000 steps beyond the first 10,000, which other work on the machine doesn't disturb."""
+
+import argparse
+import pathlib
+import re
+import subprocess
+import tempfile
+import time
+
+HERE = pathlib.Path(__file__).parent
+GUESTS = ("sha", "walk", "stores", "spaces")
+STEPS = 16_000_000  # the most that a plan may have
+PAGES = 64
+LOOP = "start: j start\naddiu $0, $0, 0\n"
+
+
+def image_of(disco, text, folder):
+    """The image that the assembler makes of a text, out of its listing."""
+    source = folder / "guest.s"
+    source.write_text(text)
+    listing = subprocess.run([disco, "--asm", source], stdout=subprocess.PIPE, text=True, check=True).stdout
+    return bytes.fromhex("".join(listing.split("file image.elf")[1].split("\n")[1:]))
+
+
+def description(image, guests, steps):
+    """So many guests of one image, each on a processor of its own, for so many steps."""
+    nodes = ", ".join(["0"] * guests)
+    text = f"[machine]\nnodes = 1\nframes = {PAGES * guests}\nprocessors = [{nodes}]\n"
+    text += guests * f'[[guest]]\nimage = "{image}"\npages = {PAGES}\nvcpus = 1\nnode = 0\n'
+    for number in range(guests):
+        text += f'[[work]]\nact = "run"\nprocessor = {number}\nguest = {number}\nvcpu = 0\nsteps = {steps}\n'
+    return text
+
+
+def run(program, how, file, folder):
+    begin = time.monotonic()
+    subprocess.run([program, how, file], cwd=folder, stdout=subprocess.DEVNULL, check=True)
+    return time.monotonic() - begin
+
+
+def seconds(programs, how, file, folder, times):
+    """The shortest time of each program, run in turns."""
+    found = [[] for _ in programs]
+    for _ in range(times):
+        for program, its in zip(programs, found):
+            its.append(run(program, how, file, folder))
+    return [min(its) for its in found]
+
+
+def instructions(program, how, file, folder):
+    """The host's instructions of a run."""
+    words = ["valgrind", "--tool=callgrind", "--callgrind-out-file=/dev/null", program, how, file]
+    said = subprocess.run(words, cwd=folder, stdout=subprocess.DEVNULL, stderr=subprocess.PIPE, text=True, check=True).stderr
+    return int(re.search(r"Collected : (\d+)", said)[1])
+
+
+def counted(program, how, image, folder):
+    """The host's instructions a step, in the long run."""
+    first, all_of_them = 10_000, 110_000
+    counts = []
+    for steps in (first, all_of_them):
+        (folder / "count.toml").write_text(description(image, 1, steps))
+        counts.append(instructions(program, how, "count.toml", folder))
+    return (counts[1] - counts[0]) / (all_of_them - first)
+
+
+def report(name, programs, folder, times, counts):
+    alone = seconds(programs, "--private", f"{name}.toml", folder, times)
+    monitored = seconds(programs, "--machine", f"{name}.toml", folder, times)
+    million = STEPS / 1_000_000
+    print(f"{name}: {million / alone[0]:.1f} million steps a second alone, {million / monitored[0]:.1f} monitored, {monitored[0] / alone[0]:.2f} times as long a step")
+    for other_alone, other_monitored in zip(alone[1:], monitored[1:]):
+        print(f"{name}: the other takes {other_alone / alone[0]:.2f} times as long alone, {other_monitored / monitored[0]:.2f} times monitored")
+    if counts:
+        for program in programs:
+            both = [counted(program, how, f"{name}.elf", folder) for how in ("--private", "--machine")]
+            print(f"{name}: {both[0]:.1f} instructions a step alone, {both[1]:.1f} monitored ({program})")
+
+
+def main():
+    parser = argparse.ArgumentParser(description=__doc__, formatter_class=argparse.RawDescriptionHelpFormatter)
+    parser.add_argument("disco", type=pathlib.Path)
+    parser.add_argument("--other", type=pathlib.Path)
+    parser.add_argument("--times", type=int, default=3)
+    parser.add_argument("--count", action="store_true")
+    given = parser.parse_args()
+    programs = [it.resolve() for it in (given.disco, given.other) if it]
+    with tempfile.TemporaryDirectory() as at:
+        folder = pathlib.Path(at)
+        for name in ("loop", *GUESTS):
+            text = LOOP if name == "loop" else (HERE / "guests" / f"{name}.s").read_text()
+            (folder / f"{name}.elf").write_bytes(image_of(programs[0], text, folder))
+            (folder / f"{name}.toml").write_text(description(f"{name}.elf", 1, STEPS))
+            report(name, programs, folder, given.times, given.count)
+        each = STEPS // 4
+        times = {}
+        for guests in (1, 2, 4):
+            (folder / "many.toml").write_text(description("sha.elf", guests, each))
+            times[guests] = seconds(programs[:1], "--machine", "many.toml", folder, given.times)[0]
+        for guests in (2, 4):
+            print(f"{guests} guests on {guests} processors: {times[guests] / times[1]:.2f} times as long as one")
+        words = ["time", "-f", "%M", programs[0], "--machine", "loop.toml"]
+        said = subprocess.run(words, cwd=folder, stdout=subprocess.DEVNULL, stderr=subprocess.PIPE, text=True)
+        print(f"{STEPS:,} steps of loop: {int(said.stderr) / 1024:.1f} MB at most")
+
+
+if __name__ == "__main__":
+    main()

@@ -1,0 +1,87 @@
+-- A direct step is its row; a trap leaves the guest as it was.
+use Rattle.std.proofs.Common.{sym, ap, ◌∙◌, subst}
+use Rattle.isolation_law.specs.Phases.{GoesOn, Runs}
+use Rattle.base_words.specs.declared.events.Event.TheVariants.{Direct}
+use Rattle.guest_course.specs.CourseView.{state_of}
+use Rattle.guest_course.proofs.StepProofs.{Hardware, Made, Noted, note-within, executes, sound-after, step-goes-on, step-runs, traps, sound-stays}
+use Rattle.guest_course.proofs.RebackLemmas.{well, is-well}
+use Rattle.guest_course.proofs.course.Course.step_noted.Goals as goal
+
+pub note-requires : goal.note-requires
+note-requires c =
+    let made : Made c.args.self.now c.hardware.new.self c.args.processor.0 c.args.vcpu.0 c.in-Direct.access = record {
+      sound = c.requires.sound;
+      may = c.requires.may;
+      hardware = record { same = c.hardware.ensures.same; spares = c.hardware.ensures.spares; devs = c.hardware.ensures.devs; agree = c.hardware.ensures.agree };
+      executed = c.in-Direct.ensures.executes;
+    } in
+    note-within c.args.self.now c.hardware.new.self c.args.processor.0 c.args.vcpu.0 c.in-Direct.access made c.steps_reach_pages.ensures
+
+pub returns-in-Direct-clause-executes : goal.returns-in-Direct-clause-executes
+returns-in-Direct-clause-executes c =
+    let made : Made c.args.self.now c.hardware.new.self c.args.processor.0 c.args.vcpu.0 c.in-Direct.access = record {
+      sound = c.requires.sound;
+      may = c.requires.may;
+      hardware = record { same = c.hardware.ensures.same; spares = c.hardware.ensures.spares; devs = c.hardware.ensures.devs; agree = c.hardware.ensures.agree };
+      executed = c.in-Direct.ensures.executes;
+    } in
+    executes c.args.self.now c.hardware.new.self c.note.new.self c.args.processor.0 c.args.vcpu.0 c.in-Direct.access made c.note.ensures.state
+
+pub returns-in-Direct-clause-sound : goal.returns-in-Direct-clause-sound
+returns-in-Direct-clause-sound c =
+    let old = c.args.self.now in
+    let made : Made old c.hardware.new.self c.args.processor.0 c.args.vcpu.0 c.in-Direct.access = record {
+      sound = c.requires.sound;
+      may = c.requires.may;
+      hardware = record { same = c.hardware.ensures.same; spares = c.hardware.ensures.spares; devs = c.hardware.ensures.devs; agree = c.hardware.ensures.agree };
+      executed = c.in-Direct.ensures.executes;
+    } in
+    let row = (executes old c.hardware.new.self c.note.new.self c.args.processor.0 c.args.vcpu.0 c.in-Direct.access made c.note.ensures.state).row in
+    let going = c.requires.sound.going c.requires.may.goes_on.not_ended in
+    let noted : Noted c.hardware.new.self c.note.new.self = record { same = c.note.ensures.same; dues = c.note.ensures.dues; counted = c.note.ensures.counted } in
+    let co = well c.row_keeps.ensures.coherent c.row_keeps.ensures.uses_live (state_of old) (state_of c.note.new.self) (Direct c.args.processor c.args.vcpu) (is-well going) row (ap (λ x. x.ended) c.note.ensures.same ∙ ap (λ x. x.ended) c.hardware.ensures.same ∙ c.requires.may.goes_on.not_ended) in
+    sound-after old c.hardware.new.self c.note.new.self c.args.processor.0 c.args.vcpu.0 c.in-Direct.access made noted co
+
+pub returns-in-Trap-clause-executes : goal.returns-in-Trap-clause-executes
+returns-in-Trap-clause-executes c =
+    let hardware : Hardware c.args.self.now c.hardware.new.self = record { same = c.hardware.ensures.same; spares = c.hardware.ensures.spares; devs = c.hardware.ensures.devs; agree = c.hardware.ensures.agree } in
+    traps c.args.self.now c.hardware.new.self c.args.processor.0 c.args.vcpu.0 c.in-Trap.cause c.requires.sound c.requires.may hardware c.in-Trap.ensures.executes
+
+pub returns-in-Trap-clause-sound : goal.returns-in-Trap-clause-sound
+returns-in-Trap-clause-sound c =
+    let hardware : Hardware c.args.self.now c.hardware.new.self = record { same = c.hardware.ensures.same; spares = c.hardware.ensures.spares; devs = c.hardware.ensures.devs; agree = c.hardware.ensures.agree } in
+    sound-stays c.args.self.now c.hardware.new.self c.args.processor.0 c.args.vcpu.0 c.in-Trap.cause c.requires.sound hardware c.in-Trap.ensures.executes
+
+pub returns-in-Direct-clause-goes_on : goal.returns-in-Direct-clause-goes_on
+returns-in-Direct-clause-goes_on c =
+    let made : Made c.args.self.now c.hardware.new.self c.args.processor.0 c.args.vcpu.0 c.in-Direct.access = record {
+      sound = c.requires.sound;
+      may = c.requires.may;
+      hardware = record { same = c.hardware.ensures.same; spares = c.hardware.ensures.spares; devs = c.hardware.ensures.devs; agree = c.hardware.ensures.agree };
+      executed = c.in-Direct.ensures.executes;
+    } in
+    let noted : Noted c.hardware.new.self c.note.new.self = record { same = c.note.ensures.same; dues = c.note.ensures.dues; counted = c.note.ensures.counted } in
+    step-goes-on c.args.self.now c.hardware.new.self c.note.new.self c.args.processor.0 c.args.vcpu.0 c.in-Direct.access made noted
+
+pub returns-in-Direct-clause-runs : goal.returns-in-Direct-clause-runs
+returns-in-Direct-clause-runs c =
+    let made : Made c.args.self.now c.hardware.new.self c.args.processor.0 c.args.vcpu.0 c.in-Direct.access = record {
+      sound = c.requires.sound;
+      may = c.requires.may;
+      hardware = record { same = c.hardware.ensures.same; spares = c.hardware.ensures.spares; devs = c.hardware.ensures.devs; agree = c.hardware.ensures.agree };
+      executed = c.in-Direct.ensures.executes;
+    } in
+    let noted : Noted c.hardware.new.self c.note.new.self = record { same = c.note.ensures.same; dues = c.note.ensures.dues; counted = c.note.ensures.counted } in
+    step-runs c.args.self.now c.hardware.new.self c.note.new.self c.args.processor.0 c.args.vcpu.0 c.in-Direct.access made noted
+
+pub returns-in-Trap-clause-goes_on : goal.returns-in-Trap-clause-goes_on
+returns-in-Trap-clause-goes_on c =
+    let hardware : Hardware c.args.self.now c.hardware.new.self = record { same = c.hardware.ensures.same; spares = c.hardware.ensures.spares; devs = c.hardware.ensures.devs; agree = c.hardware.ensures.agree } in
+    let stays = traps c.args.self.now c.hardware.new.self c.args.processor.0 c.args.vcpu.0 c.in-Trap.cause c.requires.sound c.requires.may hardware c.in-Trap.ensures.executes in
+    subst GoesOn (sym stays.same) c.requires.may.goes_on
+
+pub returns-in-Trap-clause-runs : goal.returns-in-Trap-clause-runs
+returns-in-Trap-clause-runs c =
+    let hardware : Hardware c.args.self.now c.hardware.new.self = record { same = c.hardware.ensures.same; spares = c.hardware.ensures.spares; devs = c.hardware.ensures.devs; agree = c.hardware.ensures.agree } in
+    let stays = traps c.args.self.now c.hardware.new.self c.args.processor.0 c.args.vcpu.0 c.in-Trap.cause c.requires.sound c.requires.may hardware c.in-Trap.ensures.executes in
+    subst (λ s. Runs s c.args.processor.0 c.args.vcpu.0) (sym stays.same) c.requires.may.runs

@@ -1,0 +1,23 @@
+use Rattle.std.proofs.Common.{◌-◌, ◌≡◌, ◌<◌}
+use Rattle.guest_course.specs.CourseView.{state_of}
+use Rattle.guest_course.specs.CourseRules.{IsSound}
+use Rattle.guest_course.specs.Packets.{SamePackets}
+use Rattle.guest_course.specs.StepCalls.{MayStep, StepsMany}
+use Rattle.guest_course.proofs.course.Course.steps.Given as goal
+
+abbrev pub invariant-loop-made : goal.invariant-loop-made
+invariant-loop-made l = record {
+  sound : IsSound l.self;
+  may : MayStep (state_of l.self) l.processor.0 l.vcpu.0;
+  steps : StepsMany l.made (state_of l.fn.self) l.processor.0 l.vcpu.0 (state_of l.self);
+  fewer : l.made < l.most;
+  print_room : l.self.devs.print_room ≡ l.fn.self.devs.print_room;
+  send_room : l.self.devs.send_room ≡ l.fn.self.devs.send_room;
+  room : l.self.pmap.room ≡ l.fn.self.pmap.room;
+  cells : l.self.sent_from ≡ l.fn.self.sent_from;
+  skips : l.self.skips ≡ l.fn.self.skips;
+  packets : SamePackets l.fn.self l.self;
+}
+
+abbrev pub decreases-loop-made : goal.decreases-loop-made
+decreases-loop-made l = l.most - l.made

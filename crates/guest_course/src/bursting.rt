@@ -1,0 +1,71 @@
+//! Steps that a processor makes by itself, one after the other.
+ghost use Rattle.std.specs.Prelude.{◌≡◌, ◌≤◌, ◌<◌};
+ghost use Rattle.isolation_law.specs.Phases.{GoesOn, Runs};
+ghost use Rattle.guest_course.specs.CourseView.{state_of};
+ghost use Rattle.guest_course.specs.CourseRules.{IsSound};
+ghost use Rattle.guest_course.specs.StepCalls.{Executes, MayStep, StepsTo, StopsAt};
+ghost use Rattle.guest_course.specs.Packets.{SamePackets};
+
+use crate::course::Course;
+use base_words::{HwStep, ProcId, VcpuId};
+
+/// How many steps a processor made by itself, and how the last one came out: the last of these, or the one behind them, which trapped.
+#[derive(Clone, Copy, Debug, PartialEq, Eq)]
+pub struct Steps {
+    pub made: u64,
+    pub last: HwStep,
+}
+
+impl Course {
+    /// Makes steps of the virtual processor that is loaded on a processor, through the processor's TLB, until one traps, a choice of the policy
+    /// is due there, or there were so many. Between two of them only that is asked: that the guest goes on, what is loaded, that it hasn't
+    /// halted, what room there is and what has come in stay in a step that the processor makes by itself.
+    pub fn steps(&mut self, processor: ProcId, vcpu: VcpuId, most: u64) -> Steps
+        requires sound { IsSound self.old }
+        requires may { MayStep (state_of self.old) processor.0 vcpu.0 }
+        requires some { 0 < most }
+        ensures sound { IsSound self.new }
+        ensures few { result.made ≤ most }
+        ensures came { StepsTo result.made (state_of self.old) processor.0 vcpu.0 (state_of self.new) result.last }
+        ensures stops { StopsAt most result.made (state_of self.new) processor.0 result.last }
+        ensures goes_on { GoesOn (state_of self.new) }
+        ensures runs { Runs (state_of self.new) processor.0 vcpu.0 }
+        ensures print_room { self.new.devs.print_room ≡ self.old.devs.print_room }
+        ensures send_room { self.new.devs.send_room ≡ self.old.devs.send_room }
+        ensures room { self.new.pmap.room ≡ self.old.pmap.room }
+        ensures cells { self.new.sent_from ≡ self.old.sent_from }
+        ensures skips { self.new.skips ≡ self.old.skips }
+        ensures packets { SamePackets self.old self.new }
+    {
+        let mut made = 0;
+        while made < most {
+            let last = self.step_noted(processor, vcpu);
+            if let HwStep::Trap(_) = last {
+                return Steps { made, last };
+            }
+            made += 1;
+            if made == most || self.due[processor.0 as usize].is_some() {
+                return Steps { made, last };
+            }
+        }
+        unreachable!()
+    }
+
+    /// One step of the virtual processor that is loaded on a processor, through the processor's TLB. A trap changes nothing.
+    pub fn step(&mut self, processor: ProcId, vcpu: VcpuId) -> HwStep
+        requires sound { IsSound self.old }
+        requires may { MayStep (state_of self.old) processor.0 vcpu.0 }
+        ensures sound { IsSound self.new }
+        ensures executes { Executes (state_of self.old) processor.0 vcpu.0 (state_of self.new) result }
+        ensures goes_on { GoesOn (state_of self.new) }
+        ensures runs { Runs (state_of self.new) processor.0 vcpu.0 }
+        ensures print_room { self.new.devs.print_room ≡ self.old.devs.print_room }
+        ensures send_room { self.new.devs.send_room ≡ self.old.devs.send_room }
+        ensures room { self.new.pmap.room ≡ self.old.pmap.room }
+        ensures cells { self.new.sent_from ≡ self.old.sent_from }
+        ensures skips { self.new.skips ≡ self.old.skips }
+        ensures packets { SamePackets self.old self.new }
+    {
+        self.steps(processor, vcpu, 1).last
+    }
+}
