@@ -5,14 +5,17 @@
 
 The guests are those of guests/: sha (sums and shifts, few loads), walk (a load and a store of each of 40 pages in turn, through the TLB), stores
 (eight steps of eleven are stores) and spaces (four address spaces take turns); and loop, a jump to itself. Prints for each how many million
-steps a second it makes alone and monitored, and how many times as long a step takes under the monitor; how many times as long 2 and 4 guests on
-as many processors take as one does; and the peak memory of 16,000,000 steps of loop. With --other, a program with the same command line, that
-one runs in turns with the first, and its time counts as a multiple. Each is run N times (3), and the shortest counts. With --count, the
-host's instructions a step, counted by valgrind over 100,000 steps beyond the first 10,000, which other work on the machine doesn't disturb."""
+steps a second it makes alone and monitored, and how many times as long a step takes under the monitor; as multiples of the speed of plain.c, where
+there is a C compiler; how many times as long 2 and 4 guests on as many processors take as one does, and as many plain.c at once, which is what
+the machine gives; and the peak memory of 16,000,000 steps of loop. With --other, a program with the same command line, that one runs in turns
+with the first, and its time counts as a multiple. Each is run N times (3), and the shortest counts. With --count, the host's instructions a
+step, counted by valgrind over 100,000 steps beyond the first 10,000, which other work on the machine doesn't disturb."""
 
 import argparse
 import pathlib
 import re
+import shutil
+import struct
 import subprocess
 import tempfile
 import time
@@ -42,24 +45,59 @@ def description(image, guests, steps):
     return text
 
 
-def run(program, how, file, folder):
+def run(words, folder):
     begin = time.monotonic()
-    subprocess.run([program, how, file], cwd=folder, stdout=subprocess.DEVNULL, check=True)
+    subprocess.run(words, cwd=folder, stdout=subprocess.DEVNULL, check=True)
     return time.monotonic() - begin
 
 
-def seconds(programs, how, file, folder, times):
-    """The shortest time of each program, run in turns."""
-    found = [[] for _ in programs]
+def seconds(calls, folder, times):
+    """The shortest time of each call, made in turns."""
+    found = [[] for _ in calls]
     for _ in range(times):
-        for program, its in zip(programs, found):
-            its.append(run(program, how, file, folder))
+        for words, its in zip(calls, found):
+            its.append(run(words, folder))
     return [min(its) for its in found]
 
 
-def instructions(program, how, file, folder):
+def plain_in(folder):
+    """The plain interpreter, where there is a C compiler."""
+    compiler = shutil.which("gcc") or shutil.which("cc")
+    if compiler is None:
+        return None
+    subprocess.run([compiler, "-O2", "-o", folder / "plain", HERE / "plain.c"], check=True)
+    return folder / "plain"
+
+
+def flat_memory(elf):
+    """The memory and the entry of an image with one segment."""
+    entry, headers = struct.unpack_from(">II", elf, 24)
+    offset, address, _, length = struct.unpack_from(">IIII", elf, headers + 4)
+    return bytes(address - 0xC000_0000) + elf[offset : offset + length], entry
+
+
+def plain_words(plain, name, steps, folder):
+    """The call of the plain interpreter for so many steps of a guest."""
+    memory, entry = flat_memory((folder / f"{name}.elf").read_bytes())
+    (folder / "memory").write_bytes(memory)
+    return [plain, folder / "memory", f"{entry:x}", str(steps)]
+
+
+def at_once(words, count, folder, times):
+    """The shortest time in which so many of a call end that begin at once."""
+    found = []
+    for _ in range(times):
+        begin = time.monotonic()
+        running = [subprocess.Popen(words, cwd=folder, stdout=subprocess.DEVNULL) for _ in range(count)]
+        for it in running:
+            it.wait()
+        found.append(time.monotonic() - begin)
+    return min(found)
+
+
+def instructions(words, folder):
     """The host's instructions of a run."""
-    words = ["valgrind", "--tool=callgrind", "--callgrind-out-file=/dev/null", program, how, file]
+    words = ["valgrind", "--tool=callgrind", "--callgrind-out-file=/dev/null", *words]
     said = subprocess.run(words, cwd=folder, stdout=subprocess.DEVNULL, stderr=subprocess.PIPE, text=True, check=True).stderr
     return int(re.search(r"Collected : (\d+)", said)[1])
 
@@ -70,21 +108,35 @@ def counted(program, how, image, folder):
     counts = []
     for steps in (first, all_of_them):
         (folder / "count.toml").write_text(description(image, 1, steps))
-        counts.append(instructions(program, how, "count.toml", folder))
+        counts.append(instructions([program, how, "count.toml"], folder))
     return (counts[1] - counts[0]) / (all_of_them - first)
 
 
-def report(name, programs, folder, times, counts):
-    alone = seconds(programs, "--private", f"{name}.toml", folder, times)
-    monitored = seconds(programs, "--machine", f"{name}.toml", folder, times)
+def plain_counted(plain, name, folder):
+    """The same of the plain interpreter."""
+    first, all_of_them = 10_000, 110_000
+    counts = [instructions(plain_words(plain, name, steps, folder), folder) for steps in (first, all_of_them)]
+    return (counts[1] - counts[0]) / (all_of_them - first)
+
+
+def report(name, programs, plain, folder, times, counts):
+    calls = [[program, how, f"{name}.toml"] for program in programs for how in ("--private", "--machine")]
+    if plain:
+        calls.append(plain_words(plain, name, STEPS, folder))
+    taken = seconds(calls, folder, times)
+    alone, monitored = taken[0], taken[1]
     million = STEPS / 1_000_000
-    print(f"{name}: {million / alone[0]:.1f} million steps a second alone, {million / monitored[0]:.1f} monitored, {monitored[0] / alone[0]:.2f} times as long a step")
-    for other_alone, other_monitored in zip(alone[1:], monitored[1:]):
-        print(f"{name}: the other takes {other_alone / alone[0]:.2f} times as long alone, {other_monitored / monitored[0]:.2f} times monitored")
+    print(f"{name}: {million / alone:.1f} million steps a second alone, {million / monitored:.1f} monitored, {monitored / alone:.2f} times as long a step")
+    if plain:
+        print(f"{name}: {taken[-1] / alone:.2f} times as fast as plain.c alone, {taken[-1] / monitored:.2f} times monitored")
+    if len(programs) > 1:
+        print(f"{name}: the other takes {taken[2] / alone:.2f} times as long alone, {taken[3] / monitored:.2f} times monitored")
     if counts:
         for program in programs:
             both = [counted(program, how, f"{name}.elf", folder) for how in ("--private", "--machine")]
             print(f"{name}: {both[0]:.1f} instructions a step alone, {both[1]:.1f} monitored ({program})")
+        if plain:
+            print(f"{name}: {plain_counted(plain, name, folder):.1f} instructions a step in plain.c")
 
 
 def main():
@@ -97,18 +149,23 @@ def main():
     programs = [it.resolve() for it in (given.disco, given.other) if it]
     with tempfile.TemporaryDirectory() as at:
         folder = pathlib.Path(at)
+        plain = plain_in(folder)
         for name in ("loop", *GUESTS):
             text = LOOP if name == "loop" else (HERE / "guests" / f"{name}.s").read_text()
             (folder / f"{name}.elf").write_bytes(image_of(programs[0], text, folder))
             (folder / f"{name}.toml").write_text(description(f"{name}.elf", 1, STEPS))
-            report(name, programs, folder, given.times, given.count)
+            report(name, programs, plain, folder, given.times, given.count)
         each = STEPS // 4
         times = {}
         for guests in (1, 2, 4):
             (folder / "many.toml").write_text(description("sha.elf", guests, each))
-            times[guests] = seconds(programs[:1], "--machine", "many.toml", folder, given.times)[0]
+            times[guests] = seconds([[programs[0], "--machine", "many.toml"]], folder, given.times)[0]
         for guests in (2, 4):
             print(f"{guests} guests on {guests} processors: {times[guests] / times[1]:.2f} times as long as one")
+            if plain:
+                words = plain_words(plain, "sha", each, folder)
+                machine = at_once(words, guests, folder, given.times) / at_once(words, 1, folder, given.times)
+                print(f"{guests} of plain.c at once: {machine:.2f} times as long as one")
         words = ["time", "-f", "%M", programs[0], "--machine", "loop.toml"]
         said = subprocess.run(words, cwd=folder, stdout=subprocess.DEVNULL, stderr=subprocess.PIPE, text=True)
         print(f"{STEPS:,} steps of loop: {int(said.stderr) / 1024:.1f} MB at most")

@@ -53,25 +53,28 @@ const PACKET_PROGRAM: [u8; 56] = [
     0xAC, 0x45, 0x00, 0x00, 0xAC, 0x40, 0x00, 0x04,
 ];
 
+/// An empty frame of node 0.
+pub(crate) fn frame(alloc: Global, number: u32) -> Result<Frame, AllocError>
+    ensures { IfOk result (λ frame. length frame.page.value ≡ 4096) }
+{
+    Ok(Frame {
+        number: FrameNo(number),
+        generation: 1,
+        page: Page::zeroed(alloc)?,
+    })
+}
+
 /// Two frames of node 0 with a program.
 fn frames(alloc: Global, program: &[u8]) -> Result<FrameList, AllocError>
     requires { length program.now ≤ 4096 }
     ensures count { IfOk result (λ frames. length frames ≡ 2) }
     ensures whole { IfOk result AreWhole }
 {
-    let mut first = Page::zeroed(alloc)?;
-    first.fill_from(0, program);
+    let mut first = frame(alloc, 2)?;
+    first.page.fill_from(0, program);
     let mut frames = Sequence::new(alloc);
-    frames.push(Frame {
-        number: FrameNo(2),
-        generation: 1,
-        page: first,
-    })?;
-    frames.push(Frame {
-        number: FrameNo(5),
-        generation: 1,
-        page: Page::zeroed(alloc)?,
-    })?;
+    frames.push(first)?;
+    frames.push(frame(alloc, 5)?)?;
     Ok(frames)
 }
 

@@ -8,9 +8,9 @@ ghost use Rattle.guest_course.specs.CourseRules.{IsSound};
 ghost use Rattle.guest_course.specs.CourseView.{state_of};
 ghost use Rattle.guest_course.specs.StepCalls.{MayStep};
 
-use crate::guest_course_entries::around;
+use crate::guest_course_entries::{around, frame};
 use crate::guest_course_turns::{Did, PROCESSOR, Sent, cell_of, turn};
-use base_words::{Blocks, Frame, FrameList, FrameNo, MoveKind, Page, Ppn, Sequence, VcpuId};
+use base_words::{Blocks, FrameList, FrameNo, MoveKind, Page, Ppn, Sequence, VcpuId};
 use cow_disk::Disk;
 use guest_course::Course;
 use std::alloc::{AllocError, Global};
@@ -42,17 +42,6 @@ const SENDS_A_PAGE: [u8; 60] = [
 
 /// The page that is shared.
 pub(crate) const PAGE: Ppn = Ppn(1);
-
-/// An empty frame of node 0.
-fn frame(alloc: Global, number: u32) -> Result<Frame, AllocError>
-    ensures { IfOk result (λ frame. length frame.page.value ≡ 4096) }
-{
-    Ok(Frame {
-        number: FrameNo(number),
-        generation: 1,
-        page: Page::zeroed(alloc)?,
-    })
-}
 
 /// The frames 2, 5 and 4, the first one with a program.
 fn frames(alloc: Global, program: &[u8]) -> Result<FrameList, AllocError>

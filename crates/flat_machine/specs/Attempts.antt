@@ -12,7 +12,7 @@ use Rattle.private_machine.specs.Devices.{commanded, disk_status}
 use Rattle.private_machine.specs.OwnStep.{answered, executed}
 
 -- the machine goes where the definition says, or stays, and the exception is told
-abbrev pub Attempts : Result PrivateMachine Exception → PrivateMachine → PrivateMachine → Result (Unit {0}) Exception → Type 0
+abbrev pub Attempts : {A : Type 0} → Result PrivateMachine Exception → PrivateMachine → PrivateMachine → Result A Exception → Type 0
 Attempts goes old new (Ok done) = goes ≡ Ok new
 Attempts goes old new (Err exception) = (goes ≡ Err exception) × (new ≡ old)
 

@@ -1,2 +1,3 @@
 pub mod FlatView
 pub mod Attempts
+pub mod Windows

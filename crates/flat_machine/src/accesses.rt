@@ -9,8 +9,11 @@ ghost use Rattle.private_machine.specs.Links.{line_of as line_of_offset};
 ghost use Rattle.private_machine.specs.Access.{loaded, stored, linked_load, conditional_store};
 ghost use Rattle.flat_machine.specs.FlatView.{machine_of, IsSound};
 ghost use Rattle.flat_machine.specs.Attempts.{Attempts, requested};
+ghost use Rattle.flat_machine.specs.Windows.{Keeps};
+ghost use Rattle.flat_machine.specs.declared.window.Change.TheVariants as changes;
 
 use crate::machine::Machine;
+use crate::window::Change;
 use base_words::{Exception, LoadKind, Place, Register, StoreKind, Use, VcpuId};
 use mips_alu::{load_unit, loaded_value, read, store_unit, stored_word};
 
@@ -41,7 +44,7 @@ impl Machine {
         self.put(vcpu, target, value);
     }
 
-    /// A load.
+    /// A load, and what it changed.
     #[inline]
     pub fn load(
         &mut self,
@@ -49,12 +52,13 @@ impl Machine {
         kind: LoadKind,
         address: u32,
         target: Register,
-    ) -> Result<(), Exception>
+    ) -> Result<Change, Exception>
         requires sound { IsSound self.old }
         requires there { vcpu.0 < length (machine_of self.old).vcpus }
         ensures sound { IsSound self.new }
         ensures ready { self.new.ready ≡ self.old.ready }
         ensures attempts { Attempts (requested (machine_of self.old) vcpu.0 (asks.Load kind address target)) (machine_of self.old) (machine_of self.new) result }
+        ensures keeps { result ≡ Ok changes.Memory → Keeps (machine_of self.old) vcpu.0 (machine_of self.new) }
     {
         let place = self
             .vcpu(vcpu)
@@ -62,10 +66,13 @@ impl Machine {
         match place {
             Ok(Place::Memory(offset)) => {
                 self.load_word(vcpu, kind, offset, target);
-                Ok(())
+                Ok(Change::Memory)
             }
             Ok(Place::Device(offset)) => match kind {
-                LoadKind::Word => self.load_device(vcpu, offset, target),
+                LoadKind::Word => {
+                    self.load_device(vcpu, offset, target)?;
+                    Ok(Change::Machine)
+                }
                 _ => Err(Exception::BusError(Use::Load)),
             },
             Err(exception) => Err(exception),
@@ -88,7 +95,7 @@ impl Machine {
         self.pass(vcpu);
     }
 
-    /// A store.
+    /// A store, and what it changed.
     #[inline]
     pub fn store(
         &mut self,
@@ -96,12 +103,13 @@ impl Machine {
         kind: StoreKind,
         address: u32,
         value: u32,
-    ) -> Result<(), Exception>
+    ) -> Result<Change, Exception>
         requires sound { IsSound self.old }
         requires there { vcpu.0 < length (machine_of self.old).vcpus }
         requires ready { self.old.ready ≡ true }
         ensures sound { IsSound self.new }
         ensures attempts { Attempts (requested (machine_of self.old) vcpu.0 (asks.Store kind address value)) (machine_of self.old) (machine_of self.new) result }
+        ensures keeps { result ≡ Ok changes.Memory → Keeps (machine_of self.old) vcpu.0 (machine_of self.new) }
     {
         let place = self
             .vcpu(vcpu)
@@ -109,10 +117,13 @@ impl Machine {
         match place {
             Ok(Place::Memory(offset)) => {
                 self.store_word(vcpu, kind, offset, value);
-                Ok(())
+                Ok(Change::Memory)
             }
             Ok(Place::Device(offset)) => match kind {
-                StoreKind::Word => self.store_device(vcpu, offset, value),
+                StoreKind::Word => {
+                    self.store_device(vcpu, offset, value)?;
+                    Ok(Change::Machine)
+                }
                 _ => Err(Exception::BusError(Use::Store)),
             },
             Err(exception) => Err(exception),

@@ -1,18 +1,19 @@
 //! A guest's private machine, one own event a call.
 ghost use Rattle.std.specs.Prelude.{◌≡◌, ◌*◌, ◌<◌, ◌≤◌, IfOk, OnOk, OnErr, length, map, replicate, option_map};
 ghost use Rattle.base_words.specs.declared.ids.Ppn.{Ppn};
-ghost use Rattle.private_machine.specs.Vcpu.{started};
 ghost use Rattle.private_machine.specs.PrivateMachine.{vcpu as vcpu_at};
-ghost use Rattle.private_machine.specs.PrivateRun.{booted, own_event};
+ghost use Rattle.private_machine.specs.PrivateRun.{booted, own_event, private_run};
 ghost use Rattle.elf_image.specs.Physical.{memory_of};
 ghost use Rattle.flat_machine.specs.FlatView.{blocks_of, disk_of, start_of};
+ghost use Rattle.base_words.specs.declared.events.OwnEvent.TheVariants.{Step};
 ghost use Rattle.flat_machine.specs.Attempts.{MayCome};
+ghost use Rattle.flat_machine.specs.Windows.{MadeSome};
 
 use crate::machine::Machine;
 use base_words::{Blocks, Bytes, InputList, OwnEvent, Page, Ppn, SentPacket, VcpuId};
 use elf_image::Image;
 use guest_devs::Devs;
-use private_machine::Vcpu;
+use private_machine::new_vcpus;
 use std::alloc::{AllocError, Global};
 use std::marker::Model;
 
@@ -54,7 +55,7 @@ impl Flat {
                 alloc,
                 pages,
                 memory: memory_from(alloc, image.pages.as_slice())?,
-                vcpus: alike(alloc, image.entry, vcpus)?,
+                vcpus: new_vcpus(alloc, image.entry, vcpus)?,
                 devs: Devs::new(alloc, vcpus, pages, input)?,
                 disk: disk_from(alloc, disk)?,
                 spare: Vec::new(alloc),
@@ -72,12 +73,22 @@ impl Flat {
         ensures refused { OnErr result (self.new ≡ self.old) }
     {
         match event {
-            OwnEvent::Step(vcpu) => self.machine.own_step(*vcpu),
+            OwnEvent::Step(vcpu) => self.machine.run(*vcpu, 1),
             OwnEvent::Packet { from, bytes } => {
                 self.machine.own_packet(*from, bytes.as_slice());
                 Ok(())
             }
         }
+    }
+
+    /// So many steps of one of its virtual processors. Where memory is wanting, some of them were made.
+    pub fn run(&mut self, vcpu: VcpuId, steps: u64) -> Result<(), AllocError>
+        requires { vcpu.0 < length self.old.vcpus }
+        ensures count { length self.new.vcpus ≡ length self.old.vcpus }
+        ensures made { OnOk result (self.new ≡ private_run self.old (replicate steps (Step vcpu))) }
+        ensures wants { OnErr result (MadeSome self.old vcpu steps self.new) }
+    {
+        self.machine.run(vcpu, steps)
     }
 
     /// What was printed.
@@ -137,15 +148,6 @@ fn memory_from(alloc: Global, pages: &[Box<Page>]) -> Result<Vec<u8>, AllocError
         memory.extend_from_slice(page.bytes())?;
     }
     Ok(memory)
-}
-
-/// So many virtual processors at their start.
-fn alike(alloc: Global, entry: u32, count: u8) -> Result<Vec<Vcpu>, AllocError>
-    ensures { IfOk result (λ vcpus. vcpus.items ≡ replicate count (started entry)) }
-{
-    let mut vcpus = Vec::new(alloc);
-    vcpus.resize(count as usize, Vcpu::new(entry))?;
-    Ok(vcpus)
 }
 
 /// Copies of pages.

@@ -8,5 +8,6 @@ mod flat;
 mod machine;
 mod memory;
 mod stepping;
+mod window;
 
 pub use flat::Flat;

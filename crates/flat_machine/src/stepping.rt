@@ -1,17 +1,24 @@
 //! Steps, and packets that come in.
-ghost use Rattle.std.specs.Prelude.{◌≡◌, ◌<◌, ◌≤◌, OnOk, OnErr, length, true};
+ghost use Rattle.std.specs.Prelude.{◌≡◌, ◌<◌, ◌≤◌, OnOk, OnErr, Ok, length, true, false, replicate};
 ghost use Rattle.base_words.specs.Instruction.{effect};
 ghost use Rattle.base_words.specs.OpcodeMap.{decoded};
-ghost use Rattle.base_words.specs.Coprocessor.{in_user_mode};
+ghost use Rattle.base_words.specs.Coprocessor.{in_user_mode, interrupts};
 ghost use Rattle.private_machine.specs.PrivateMachine.{vcpu as vcpu_at};
 ghost use Rattle.private_machine.specs.OwnStep.{is_privileged as is_privileged_of, is_usable, usable, fetched, attempted, acted, joined, own_step};
 ghost use Rattle.private_machine.specs.Packet.{own_packet};
 ghost use Rattle.flat_machine.specs.FlatView.{machine_of, IsSound};
+ghost use Rattle.base_words.specs.declared.events.OwnEvent.TheVariants.{Step};
+ghost use Rattle.private_machine.specs.Vcpu.{space_of};
+ghost use Rattle.private_machine.specs.PrivateRun.{private_run};
 ghost use Rattle.flat_machine.specs.Attempts.{Attempts, Begins, requested};
+ghost use Rattle.flat_machine.specs.Windows.{IsFetchPage, IsWindow, Keeps, MadeSome};
+ghost use Rattle.flat_machine.specs.declared.window.Change.TheVariants as changes;
 
 use crate::machine::Machine;
 use crate::memory::fill_page;
+use crate::window::{Change, FetchPage, Window};
 use base_words::{Exception, GuestId, PAGE_SIZE, Place, Request, Use, VcpuId};
+use guest_devs::{quiet_steps, quiet_steps_pass};
 use mips_alu::execute;
 use mips_isa::decode;
 use private_machine::unlink_page;
@@ -44,16 +51,31 @@ impl Machine {
         Ok(())
     }
 
-    /// The word at the program counter.
-    #[inline]
-    fn fetch(&self, vcpu: VcpuId) -> Result<u32, Exception>
+    /// The word at the program counter. The page of the last fetch is looked at first.
+    #[inline(always)]
+    fn fetch(&self, vcpu: VcpuId, last: &mut Option<FetchPage>) -> Result<u32, Exception>
         requires sound { IsSound self.now }
         requires there { vcpu.0 < length (machine_of self.now).vcpus }
-        ensures { result ≡ fetched (machine_of self.now) vcpu.0 }
+        requires last { IsFetchPage (space_of (vcpu_at (machine_of self.now) vcpu.0)) self.now.pages last.old }
+        ensures fetched { result ≡ fetched (machine_of self.now) vcpu.0 }
+        ensures last { IsFetchPage (space_of (vcpu_at (machine_of self.now) vcpu.0)) self.now.pages last.new }
     {
         let vcpu = self.vcpu(vcpu);
-        match vcpu.place(self.pages, 4, Use::Fetch, vcpu.registers.pc) {
-            Ok(Place::Memory(offset)) => Ok(self.word_around(offset)),
+        let pc = vcpu.registers.pc;
+        if let Some(page) = *last
+            && page.number == pc / PAGE_SIZE
+            && pc % 4 == 0
+        {
+            return Ok(self.word_around(page.start + u64::from(pc % PAGE_SIZE)));
+        }
+        match vcpu.place(self.pages, 4, Use::Fetch, pc) {
+            Ok(Place::Memory(offset)) => {
+                *last = Some(FetchPage {
+                    number: pc / PAGE_SIZE,
+                    start: offset - u64::from(pc % PAGE_SIZE),
+                });
+                Ok(self.word_around(offset))
+            }
             Ok(Place::Device(_)) => Err(Exception::BusError(Use::Fetch)),
             Err(exception) => Err(exception),
         }
@@ -68,6 +90,7 @@ impl Machine {
         ensures ready { self.new.ready ≡ self.old.ready }
         ensures count { length (machine_of self.new).vcpus ≡ length (machine_of self.old).vcpus }
         ensures begins { Begins (machine_of self.old) vcpu.0 (usable (is_usable word (in_user_mode (vcpu_at (machine_of self.old) vcpu.0).cp0.status)) (effect (decoded word) (vcpu_at (machine_of self.old) vcpu.0).registers)) (machine_of self.new) result }
+        ensures keeps { Keeps (machine_of self.old) vcpu.0 (machine_of self.new) }
     {
         if is_privileged(word) && self.vcpu(vcpu).cp0.is_user() {
             return Err(Exception::CoprocessorUnusable(0));
@@ -75,17 +98,18 @@ impl Machine {
         execute(&decode(word), &mut self.vcpus[vcpu.0 as usize].registers)
     }
 
-    /// Does what an instruction asks of memory or of coprocessor 0.
-    #[inline]
-    fn answer(&mut self, vcpu: VcpuId, request: Request) -> Result<(), Exception>
+    /// Does what an instruction asks of memory or of coprocessor 0, and answers what it changed.
+    #[inline(always)]
+    fn answer(&mut self, vcpu: VcpuId, request: Request) -> Result<Change, Exception>
         requires sound { IsSound self.old }
         requires there { vcpu.0 < length (machine_of self.old).vcpus }
         requires ready { self.old.ready ≡ true }
         ensures sound { IsSound self.new }
         ensures attempts { Attempts (requested (machine_of self.old) vcpu.0 request) (machine_of self.old) (machine_of self.new) result }
+        ensures keeps { result ≡ Ok changes.Memory → Keeps (machine_of self.old) vcpu.0 (machine_of self.new) }
     {
         match request {
-            Request::Nothing => Ok(()),
+            Request::Nothing => Ok(Change::Memory),
             Request::Load {
                 kind,
                 address,
@@ -96,52 +120,79 @@ impl Machine {
                 address,
                 value,
             } => self.store(vcpu, kind, address, value),
-            Request::LoadLinked { address, target } => self.load_linked(vcpu, address, target),
+            Request::LoadLinked { address, target } => {
+                match self.load_linked(vcpu, address, target) {
+                    Ok(()) => Ok(Change::Machine),
+                    Err(exception) => Err(exception),
+                }
+            }
             Request::StoreConditional {
                 address,
                 value,
                 target,
-            } => self.store_conditional(vcpu, address, value, target),
+            } => match self.store_conditional(vcpu, address, value, target) {
+                Ok(()) => Ok(Change::Machine),
+                Err(exception) => Err(exception),
+            },
             Request::ReadCp0 { number, target } => {
                 self.read_cp0(vcpu, number, target);
-                Ok(())
+                Ok(Change::Machine)
             }
             Request::WriteCp0 { number, value } => {
                 self.write_cp0(vcpu, number, value);
-                Ok(())
+                Ok(Change::Machine)
             }
             Request::System(op) => {
                 self.do_system(vcpu, op);
-                Ok(())
+                Ok(Change::Machine)
             }
         }
     }
 
-    /// The instruction at the program counter, or the exception that it raises.
-    fn attempt(&mut self, vcpu: VcpuId) -> Result<(), Exception>
+    /// The instruction at the program counter, or the exception that it raises; and what it changed.
+    #[inline(always)]
+    fn attempt(
+        &mut self,
+        vcpu: VcpuId,
+        fetched: &mut Option<FetchPage>,
+    ) -> Result<Change, Exception>
         requires sound { IsSound self.old }
         requires there { vcpu.0 < length (machine_of self.old).vcpus }
         requires ready { self.old.ready ≡ true }
+        requires fetched { IsFetchPage (space_of (vcpu_at (machine_of self.old) vcpu.0)) self.old.pages fetched.old }
         ensures sound { IsSound self.new }
         ensures attempts { Attempts (attempted (machine_of self.old) vcpu.0) (machine_of self.old) (machine_of self.new) result }
+        ensures keeps { result ≡ Ok changes.Memory → Keeps (machine_of self.old) vcpu.0 (machine_of self.new) }
+        ensures fetched { IsFetchPage (space_of (vcpu_at (machine_of self.old) vcpu.0)) self.old.pages fetched.new }
     {
-        let word = self.fetch(vcpu)?;
+        let word = self.fetch(vcpu, fetched)?;
         let request = self.begin(vcpu, word)?;
         self.answer(vcpu, request)
     }
 
-    /// An interrupt, or the instruction at the program counter.
-    fn act(&mut self, vcpu: VcpuId)
+    /// An interrupt, or the instruction at the program counter, and what it changed. Before a quiet step no interrupt is looked for.
+    #[inline(always)]
+    fn act(&mut self, vcpu: VcpuId, quiet: bool, fetched: &mut Option<FetchPage>) -> Change
         requires sound { IsSound self.old }
         requires there { vcpu.0 < length (machine_of self.old).vcpus }
         requires ready { self.old.ready ≡ true }
+        requires quiet { quiet ≡ true → interrupts (vcpu_at (machine_of self.old) vcpu.0).cp0 ≡ false }
+        requires fetched { IsFetchPage (space_of (vcpu_at (machine_of self.old) vcpu.0)) self.old.pages fetched.old }
         ensures sound { IsSound self.new }
         ensures acted { machine_of self.new ≡ acted (machine_of self.old) vcpu.0 }
+        ensures keeps { result ≡ changes.Memory → Keeps (machine_of self.old) vcpu.0 (machine_of self.new) }
+        ensures fetched { IsFetchPage (space_of (vcpu_at (machine_of self.old) vcpu.0)) self.old.pages fetched.new }
     {
-        if self.vcpu(vcpu).cp0.pending() {
+        if !quiet && self.vcpu(vcpu).cp0.pending() {
             self.raise(vcpu, Exception::Interrupt);
-        } else if let Err(exception) = self.attempt(vcpu) {
-            self.raise(vcpu, exception);
+            return Change::Machine;
+        }
+        match self.attempt(vcpu, fetched) {
+            Ok(change) => change,
+            Err(exception) => {
+                self.raise(vcpu, exception);
+                Change::Machine
+            }
         }
     }
 
@@ -160,20 +211,68 @@ impl Machine {
         }
     }
 
-    /// One step of a virtual processor; one that has halted changes nothing.
-    pub fn own_step(&mut self, vcpu: VcpuId) -> Result<(), AllocError>
+    /// Before a step: input that is due joins, where the window doesn't say that nothing comes. Whether nothing does.
+    #[inline(always)]
+    fn prepare(&mut self, vcpu: VcpuId, window: &mut Window) -> bool
         requires sound { IsSound self.old }
         requires there { vcpu.0 < length (machine_of self.old).vcpus }
+        requires window { IsWindow (machine_of self.old) vcpu.0 window.old }
+        ensures sound { IsSound self.new }
+        ensures ready { self.new.ready ≡ self.old.ready }
+        ensures count { length (machine_of self.new).vcpus ≡ length (machine_of self.old).vcpus }
+        ensures joined { machine_of self.new ≡ joined (machine_of self.old) vcpu.0 }
+        ensures quiet { result ≡ true → interrupts (vcpu_at (machine_of self.new) vcpu.0).cp0 ≡ false }
+        ensures window { IsWindow (machine_of self.new) vcpu.0 window.new }
+    {
+        if window.quiet == 0 {
+            window.quiet = quiet_steps(&self.vcpus, &self.devs, vcpu);
+        }
+        if window.quiet == 0 {
+            self.join(vcpu);
+            return false;
+        }
+        true
+    }
+
+    /// One step of a virtual processor; one that has halted changes nothing. The window is what it goes by, and the next one.
+    #[inline(always)]
+    fn own_step(&mut self, vcpu: VcpuId, window: &mut Window) -> Result<(), AllocError>
+        requires sound { IsSound self.old }
+        requires there { vcpu.0 < length (machine_of self.old).vcpus }
+        requires window { IsWindow (machine_of self.old) vcpu.0 window.old }
         ensures sound { IsSound self.new }
         ensures count { length (machine_of self.new).vcpus ≡ length (machine_of self.old).vcpus }
         ensures stepped { OnOk result (machine_of self.new ≡ own_step (machine_of self.old) vcpu.0) }
         ensures refused { OnErr result (machine_of self.new ≡ machine_of self.old) }
+        ensures window { IsWindow (machine_of self.new) vcpu.0 window.new }
     {
-        if !self.vcpu(vcpu).halted {
-            self.make_ready()?;
-            self.join(vcpu);
-            self.act(vcpu);
-            self.tick(vcpu);
+        quiet_steps_pass();
+        if self.vcpu(vcpu).halted {
+            return Ok(());
+        }
+        self.make_ready()?;
+        let quiet = self.prepare(vcpu, window);
+        let change = self.act(vcpu, quiet, &mut window.fetched);
+        self.tick(vcpu);
+        match change {
+            Change::Memory => window.quiet = window.quiet.saturating_sub(1),
+            Change::Machine => *window = Window::new(),
+        }
+        Ok(())
+    }
+
+    /// So many steps of a virtual processor. Where memory is wanting, some of them were made.
+    pub fn run(&mut self, vcpu: VcpuId, steps: u64) -> Result<(), AllocError>
+        requires sound { IsSound self.old }
+        requires there { vcpu.0 < length (machine_of self.old).vcpus }
+        ensures sound { IsSound self.new }
+        ensures count { length (machine_of self.new).vcpus ≡ length (machine_of self.old).vcpus }
+        ensures made { OnOk result (machine_of self.new ≡ private_run (machine_of self.old) (replicate steps (Step vcpu))) }
+        ensures wants { OnErr result (MadeSome (machine_of self.old) vcpu steps (machine_of self.new)) }
+    {
+        let mut window = Window::new();
+        for _ in 0..steps {
+            self.own_step(vcpu, &mut window)?;
         }
         Ok(())
     }

@@ -188,7 +188,6 @@ impl Guest {
     /// `Waits` where its page has one, `Begun` where the page needs one first. What a step sends to another guest is put on their
     /// wire, or lost where that is full. Want of memory comes only at a send that is made or a disk write that is carried out, and then no
     /// entry was made. The step that halts the last virtual processor ends the guest, which gives all its frames back.
-    #[inline(always)]
     pub fn turn<R: Wait>(
         &mut self,
         rt: &R,

@@ -392,7 +392,6 @@ impl Parts {
     }
 
     /// The next entry of a virtual processor that runs.
-    #[inline(always)]
     fn enter<R: Wait>(
         &mut self,
         rt: &R,
@@ -428,7 +427,6 @@ impl Parts {
     }
 
     /// The virtual processor that is loaded on the token's processor has its turn.
-    #[inline(always)]
     pub(crate) fn turn<R: Wait>(
         &mut self,
         rt: &R,

@@ -40,3 +40,5 @@ pub mod DeliveryProofs
 pub mod ReceivingProofs
 pub mod PostingProofs
 pub mod OfferProofs
+pub mod QuietLemmas
+pub mod WindowProofs

@@ -46,7 +46,7 @@ pub record Hardware (c d : Course) : Type 0 where
   pub devs : d.devs.state ≡ on_page c.devs.state d.devs.state.page
   pub agree : Agree d.devs.state d.vcpus.items
 
-abbrev outcome : Course → ℕ → ℕ → Result Outcome TrapCause
+abbrev pub outcome : Course → ℕ → ℕ → Result Outcome TrapCause
 outcome c p v = outcome_at (lost_in c.around.site.shape c.dead) c.pmap.pages c.vcpus.items c.devs.state.page v (processor (state_of c) p).tlb
 
 -- what is true of a step that the hardware made
@@ -126,7 +126,7 @@ note-within c d p v access m reach =
     let within : IsWithinPages (length c.pmap.pages) access.«data» = subst (λ (a : Access). IsWithinPages (length c.pmap.pages) a.«data») (sym r.2) (reach (state_of c) p v r.0 going.coherent r.1) in
     within-noted d p access.«data» (may-note c d p v access m) (subst (λ (n : ℕ). IsWithinPages n access.«data») (sym long) within)
 
-length-lined : (v : ℕ) (waits : Bool) (cs : List Vcpu) → length (lined v waits cs) ≡ length cs
+pub length-lined : (v : ℕ) (waits : Bool) (cs : List Vcpu) → length (lined v waits cs) ≡ length cs
 length-lined v waits cs = elim (v == 0) as (λ b. length (lined_if b waits cs) ≡ length cs) [ true ↦ length-set cs 0 (with_line_on 2 waits (get_or cs 0 no_vcpu)) | false ↦ refl ]
 
 pub transfers-joined : (v : ℕ) (cs : List Vcpu) (page : DevicePage) → (joined_page v cs page).transfers ≡ page.transfers

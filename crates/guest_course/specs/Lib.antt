@@ -26,3 +26,4 @@ pub mod EndCalls
 pub mod FailCalls
 pub mod Errands
 pub mod Executed
+pub mod Windows

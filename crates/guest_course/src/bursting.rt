@@ -7,7 +7,9 @@ ghost use Rattle.guest_course.specs.StepCalls.{Executes, MayStep, StepsTo, Stops
 ghost use Rattle.guest_course.specs.Packets.{SamePackets};
 
 use crate::course::Course;
+use crate::window::Window;
 use base_words::{HwStep, ProcId, VcpuId};
+use guest_devs::quiet_steps;
 
 /// How many steps a processor made by itself, and how the last one came out: the last of these, or the one behind them, which trapped.
 #[derive(Clone, Copy, Debug, PartialEq, Eq)]
@@ -38,8 +40,14 @@ impl Course {
         ensures packets { SamePackets self.old self.new }
     {
         let mut made = 0;
+        let mut quiet = 0;
+        let mut window = Window::new(&self.vcpus[vcpu.0 as usize]);
         while made < most {
-            let last = self.step_noted(processor, vcpu);
+            if quiet == 0 {
+                quiet = quiet_steps(&self.vcpus, &self.devs, vcpu);
+            }
+            let last = self.step_noted(processor, vcpu, quiet > 0, &mut window);
+            quiet = quiet.saturating_sub(1);
             if let HwStep::Trap(_) = last {
                 return Steps { made, last };
             }

@@ -36,6 +36,7 @@ mod stepping;
 mod taking;
 mod task;
 mod wanting;
+mod window;
 
 pub use bursting::Steps;
 pub use course::Course;

@@ -1,3 +1,5 @@
 pub mod DeviceState
 pub mod DeviceCalls
 pub mod Shown
+pub mod Arrivals
+pub mod Quiet

@@ -5,9 +5,10 @@ ghost use Rattle.private_machine.specs.DevicePage.{device_register as register_o
 ghost use Rattle.private_machine.specs.DeviceRegisters.{register_read, with_status, with_arrived, packet_noted};
 ghost use Rattle.private_machine.specs.Devices.{with_sent};
 ghost use Rattle.private_machine.specs.PrivateMachine.{input_waits};
+ghost use Rattle.guest_devs.specs.Arrivals.{NoneJoins};
 ghost use Rattle.guest_devs.specs.DeviceCalls.{taken, on_page, is_raised};
 
-use crate::input::{comes, copy_of, join, queued, take_byte, total_of};
+use crate::input::{comes, copy_of, join, next_at, queued, take_byte, total_of};
 use crate::{NOTHING, device_register};
 use base_words::{
     Bytes, DeviceRegister, GuestId, InputEntry, InputList, PacketList, Ppn, SentPacket, Sequence,
@@ -221,6 +222,14 @@ impl Devs {
         ensures { result ≡ input_waits (with_arrived steps self.now.state.page) }
     {
         self.taken < self.queue.len() || comes(&self.input[self.next..], steps)
+    }
+
+    /// No input joins the queue after fewer own steps than these.
+    #[inline]
+    pub fn quiet_until(&self) -> u64
+        ensures { NoneJoins result self.now.state.page }
+    {
+        next_at(&self.input[self.next..])
     }
 
     /// The page that is armed for a packet.

@@ -2,6 +2,7 @@
 ghost use Rattle.std.specs.Prelude.{◌≡◌, ◌<◌, ◌≤◌, ◌+◌, ◌%◌, ◌^◌, ◌-◌, ◌++◌, IfOk, length, drop, sum_by, slice_index_or, not, ◌==◌};
 ghost use Rattle.std.specs.Vec.{vec_len, vec_capacity};
 ghost use Rattle.private_machine.specs.DeviceRegisters.{arrived, still_coming};
+ghost use Rattle.guest_devs.specs.Arrivals.{NoneBefore};
 ghost use Rattle.guest_devs.specs.DeviceState.{text_length};
 
 use crate::NOTHING;
@@ -92,4 +93,15 @@ pub(crate) fn comes(input: &[InputEntry], steps: u64) -> bool
         }
     }
     false
+}
+
+/// After how many own steps the next input comes; the greatest number where none is to come.
+#[inline]
+pub(crate) fn next_at(input: &[InputEntry]) -> u64
+    ensures { NoneBefore result input.now }
+{
+    match input.first() {
+        Some(entry) => entry.at,
+        None => u64::MAX,
+    }
 }

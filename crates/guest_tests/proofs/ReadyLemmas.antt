@@ -13,9 +13,9 @@ use Rattle.machine_desc.specs.Bounds.{IsGuest}
 use Rattle.machine_desc.specs.Described.{described_seen}
 use Rattle.machine_desc.specs.Accepted.{IsDescribed}
 use Rattle.guest_core.specs.GuestView.{Monitored, Shared}
-use Rattle.run_workers.specs.declared.source.Source.{Source}
-use Rattle.run_workers.specs.Starting.{IsSource, AreSources}
-use Rattle.run_workers.specs.Booting.{HasBooted}
+use Rattle.guest_boot.specs.declared.source.Source.{Source}
+use Rattle.guest_boot.specs.Starting.{IsSource}
+use Rattle.guest_boot.specs.Booting.{HasBooted}
 use Rattle.guest_tests.specs.Ready.{HasSize, IsReady, AreReady}
 
 -- there is an item at each place of a list
@@ -30,15 +30,6 @@ place [] i x d e = absurd cc
 place (y ∷ ys) zero x d e = (omega arith, cc)
 place (y ∷ ys) (suc i) x d e = let r = place ys i x d e in (omega (arith, r.0), r.1)
 
-source-at : (specs : List GuestSpec) (sources : List Source) (g : ℕ) (source : Source) (spec : GuestSpec) → AreSources specs sources → slice_get sources g ≡ Some source → slice_get specs g ≡ Some spec → IsSource spec source
-source-at [] sources g source spec are e f = absurd cc
-source-at (s ∷ specs) [] g source spec are e f = absurd are
-source-at (s ∷ specs) (i ∷ sources) zero source spec are e f =
-    let p : i ≡ source = cc in
-    let q : s ≡ spec = cc in
-    subst (λ (x : Source). IsSource spec x) p (subst (λ (y : GuestSpec). IsSource y i) q are.0)
-source-at (s ∷ specs) (i ∷ sources) (suc g) source spec are e f = source-at specs sources g source spec are.1 e f
-
 -- the thing of a number
 numbered-at : {A : Type 0} (of : ℕ → A) (k n p : ℕ) (x : A) → slice_get (numbered of k n) p ≡ Some x → (p < n) × (x ≡ of (k + p))
 numbered-at of k zero p x e = absurd cc
@@ -50,7 +41,7 @@ numbered-at of k (suc n) (suc p) x e =
     let few = rest.0 in
     (omega (arith, few), rest.1 ∙ ap of (let m : suc k + p ≡ k + suc p = omega arith in m))
 
-pub ready : (machine : Machine) (plan : Plan) (sources : List Source) (guests : List Monitored) (tokens : List Token) (shared : Shared) (holder : Holding) → IsDescribed machine plan → AreSources machine.guests sources → HasBooted (described_seen machine plan) sources guests tokens shared holder
+pub ready : (machine : Machine) (plan : Plan) (sources : List Source) (guests : List Monitored) (tokens : List Token) (shared : Shared) (holder : Holding) → IsDescribed machine plan → ((g : ℕ) (source : Source) (spec : GuestSpec) → slice_get sources g ≡ Some source → slice_get machine.guests g ≡ Some spec → IsSource spec source) → HasBooted (described_seen machine plan) sources guests tokens shared holder
     → AreReady machine guests tokens shared
 ready machine plan sources guests tokens shared holder described from booted = record {
   each = λ number vcpus pages nodes guest token size guest-is token-is. one number vcpus pages nodes guest token size guest-is token-is;
@@ -67,7 +58,7 @@ ready machine plan sources guests tokens shared holder described from booted = r
         let spec-at = place machine.guests number started.spec started.spec started.spec_is in
         let spec = subst (IsGuest machine.shape.nodes) spec-at.1 (described.guests number started.spec spec-at.0) in
         let some = spec.some_vcpus in
-        let of = source-at machine.guests sources number source.0 started.spec from source.1 started.spec_is in
+        let of = from number source.0 started.spec source.1 started.spec_is in
         let seat = numbered-at (fresh_token booted.board) 0 (length machine.processors) number token (ap (λ (l : List Token). slice_get l number) (sym booted.tokens_are) ∙ token-is) in
         let processors : length guest.start.around.processors ≡ length machine.processors = ap (λ (w : Surroundings). length w.processors) start.around ∙ length-map machine.processors (λ n. n.0) in
         let pages : guest.start.image.pages ≡ length source.0.image.pages = λ k. (start.image_is k).pages in

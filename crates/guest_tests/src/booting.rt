@@ -1,34 +1,22 @@
 //! How the guests of a description are booted.
 ghost use Rattle.std.specs.Prelude.{◌≡◌, ◌<◌, ◌*◌, ℕ, [], IfOk, IfSome, None, Some, length, map, slice_get, slice_index_or};
-ghost use Rattle.std.specs.Arc.{arc_value};
-ghost use Rattle.std.specs.Bool.{OnTrue};
 ghost use Rattle.frame_words.specs.Holders.{IsMade};
-ghost use Rattle.private_machine.specs.Disk.{as_given};
-ghost use Rattle.cow_disk.specs.DiskView.{bytes_of};
-ghost use Rattle.guest_course.specs.BootCalls.{given_blocks};
 ghost use Rattle.node_frames.specs.Layout.{layout_of};
-ghost use Rattle.machine_desc.specs.declared.machine.GuestSpec.{GuestSpec};
-ghost use Rattle.machine_desc.specs.declared.machine.Machine.{Machine};
-ghost use Rattle.machine_desc.specs.Described.{described_seen};
 ghost use Rattle.machine_desc.specs.Accepted.{IsDescribed};
-ghost use Rattle.run_workers.specs.Starting.{IsSource, AreSources, AreServed};
+ghost use Rattle.guest_boot.specs.Starting.{AreSources, AreServed};
 ghost use Rattle.guest_tests.specs.Ready.{HasSize, IsReady, AreReady};
 
 use crate::guest_lock_turns::Started;
 use crate::lane::{Lane, Size};
 use crate::pair::Pair;
-use base_words::{Blocks, Page, Sequence};
 use block_caches::Caches;
-use boot_frames::{admit, needs_of};
-use cow_disk::Disk;
-use elf_image::load_raw;
 use frame_words::{FrameTable, Holder};
+use guest_boot::{Booted, SourceList, boot, sources_are_their_guests};
+use guest_cases::described;
 use guest_core::Guest;
-use machine_desc::{GuestSpec, Machine, Plan, read};
-use run_workers::{Booted, Source, SourceList, boot};
+use machine_desc::{Machine, Plan};
 use shootdown::ProcToken;
 use std::alloc::{AllocError, Global};
-use std::sync::Arc;
 use wire_queue::Wires;
 
 /// Two guests of three pages and one virtual processor each on one node, and a processor for each.
@@ -129,114 +117,6 @@ node = 0
 disk = "d.img"
 "#;
 
-/// The words of a raw image.
-fn file_of(alloc: Global, program: &[u32]) -> Result<Vec<u8>, AllocError> {
-    let mut file = Vec::new(alloc);
-    for word in program {
-        file.extend_from_slice(&word.to_be_bytes())?;
-    }
-    Ok(file)
-}
-
-/// A disk of one block, whose first word is the letter a.
-fn block(alloc: Global) -> Result<Arc<Blocks>, AllocError>
-    ensures one { IfOk result (λ base. length (arc_value base) ≡ 1) }
-    ensures whole { IfOk result (λ base. (k : ℕ) → k < length (bytes_of (arc_value base)) → length (slice_index_or (bytes_of (arc_value base)) k []) ≡ 4096) }
-{
-    let mut page = Page::zeroed(alloc)?;
-    page.set_byte(3, b'a');
-    let mut blocks = Sequence::new(alloc);
-    blocks.push(page)?;
-    Ok(Arc::new(alloc, blocks)?)
-}
-
-/// The disk of a guest, where it has one.
-fn disk_of(alloc: Global, spec: &GuestSpec) -> Result<Disk, AllocError>
-    ensures unwritten { IfOk result (λ disk. disk ≡ map as_given (given_blocks disk)) }
-    ensures blocks { IfOk result (λ disk. (k : ℕ) → k < length (given_blocks disk) → length (slice_index_or (given_blocks disk) k []) ≡ 4096) }
-{
-    if spec.disk.is_none() {
-        return Ok(Disk::new(alloc, None));
-    }
-    let disk = Disk::new(alloc, Some(block(alloc)?));
-    Ok(disk)
-}
-
-/// What a guest starts from. All guests with a disk have the same one.
-fn source(alloc: Global, program: &[u32], spec: &GuestSpec) -> Result<Source, AllocError>
-    ensures { IfOk result (IsSource spec.now) }
-{
-    let file = file_of(alloc, program)?;
-    match load_raw(alloc, &file, spec.pages) {
-        Ok(image) => Ok(Source {
-            image,
-            disk: disk_of(alloc, spec)?,
-            number: if spec.disk.is_some() { Some(0) } else { None },
-        }),
-        Err(_) => Err(AllocError),
-    }
-}
-
-fn sources(
-    alloc: Global,
-    guests: &[GuestSpec],
-    first: &[u32],
-    second: &[u32],
-) -> Result<SourceList, AllocError>
-    ensures { IfOk result (AreSources guests.now) }
-{
-    let [one, other] = guests else {
-        return Err(AllocError);
-    };
-    let both = vec![in alloc; source(alloc, first, one)?, source(alloc, second, other)?]?;
-    Ok(SourceList::from_vec(both))
-}
-
-fn is_served(alloc: Global, machine: &Machine, plan: &Plan) -> Result<bool, AllocError>
-    requires { IsDescribed machine.now plan.now }
-    ensures { IfOk result (λ served. OnTrue served (AreServed (layout_of machine.now.shape) machine.now.lends machine.now.cache machine.now.guests)) }
-{
-    let _ = plan;
-    let needs = needs_of(alloc, machine.guests.as_slice())?;
-    let served = admit(
-        alloc,
-        &machine.shape,
-        machine.lends.as_slice(),
-        machine.cache,
-        needs.as_slice(),
-    );
-    Ok(served.is_ok())
-}
-
-fn description(alloc: Global, text: &str) -> Result<(Machine, Plan), AllocError>
-    ensures { IfOk result (λ both. IsDescribed both.0 both.1) }
-{
-    match read(alloc, text.as_bytes()) {
-        Ok(both) => Ok(both),
-        Err(_) => Err(AllocError),
-    }
-}
-
-/// What a description of two guests says, and their sources, with these programs. An error is want of memory, or a description that
-/// can't be run.
-pub(crate) fn described(
-    alloc: Global,
-    text: &str,
-    first: &[u32],
-    second: &[u32],
-) -> Result<(Machine, Plan, SourceList), AllocError>
-    ensures described { IfOk result (λ all. IsDescribed all.0 all.1) }
-    ensures served { IfOk result (λ all. AreServed (layout_of all.0.shape) all.0.lends all.0.cache all.0.guests) }
-    ensures sources { IfOk result (λ all. AreSources all.0.guests all.2) }
-{
-    let (machine, plan) = description(alloc, text)?;
-    if !is_served(alloc, &machine, &plan)? {
-        return Err(AllocError);
-    }
-    let sources = sources(alloc, machine.guests.as_slice(), first, second)?;
-    Ok((machine, plan, sources))
-}
-
 /// The size of a guest on a machine; none where there is no such guest.
 fn size_at(machine: &Machine, number: usize) -> Option<Size>
     ensures { IfSome result (λ size. HasSize machine.now number size.vcpus size.pages size.nodes) }
@@ -295,6 +175,7 @@ fn booted(
     ensures made { IfOk result (λ b. IsMade b.table b.holder) }
     ensures frames { IfOk result (λ b. b.table.terms.frames ≡ machine.now.shape.nodes * machine.now.shape.frames) }
 {
+    sources_are_their_guests();
     boot(alloc, machine, plan, sources)
 }
 

@@ -3,20 +3,12 @@ use crate::booting::two_guests;
 use crate::pair::{Pair, Side};
 use base_words::{CellId, End, Event, Ppn, ProcId, VcpuId};
 use event_journal::Journal;
+use guest_cases::PRINTS_A;
 use guest_core::{Loaded, Packeted, Turn};
 use std::alloc::{AllocError, Global};
 use std::process::Abort;
 use std::sync::Wait;
 use std::test::Fail;
-
-/// Prints A and halts: LUI 1, CFFF; ORI 1, 1, F000; ADDIU 2, 0, 41; SW 2, 0(1); SW 2, 4(1).
-pub(crate) const PRINTS_A: [u32; 5] = [
-    0x3C01_CFFF,
-    0x3421_F000,
-    0x2402_0041,
-    0xAC22_0000,
-    0xAC22_0004,
-];
 
 /// What a turn did, without its accesses and without who is waited for.
 #[derive(Clone, Copy, Debug, PartialEq, Eq)]

@@ -5,10 +5,11 @@ ghost use Rattle.guest_lock.specs.Fits.{Fits, HasVcpu};
 ghost use Rattle.guest_lock.specs.Told.{shown};
 
 use crate::booting::first_guest;
-use crate::guest_core_calls::{Did, PRINTS_A, kind_of};
+use crate::guest_core_calls::{Did, kind_of};
 use base_words::{End, GuestId, VcpuId};
 use block_caches::Caches;
 use frame_words::FrameTable;
+use guest_cases::PRINTS_A;
 use guest_core::{Guest, Loaded, Resources, Turn};
 use guest_lock::{GuestCell, Starts, tokens_grow};
 use outside_io::{FreeGate, GatePoint};

@@ -19,5 +19,3 @@ mod guest_lock_turns;
 mod lane;
 #[cfg(test)]
 mod pair;
-#[cfg(test)]
-mod run_workers_frames;

@@ -18,7 +18,7 @@ found-at : (h : Held) (half : Half) (o : Option Half) → Serves h half → Serv
 found-at h half o here later true = here
 found-at h half o here later false = later
 
-found-serves : (h : Held) (p : Half → Bool) (halves : List Half) → AllServe h halves → ServesIf h (find p halves)
+pub found-serves : (h : Held) (p : Half → Bool) (halves : List Half) → AllServe h halves → ServesIf h (find p halves)
 found-serves h p [] all = tt
 found-serves h p (half ∷ halves) all = found-at h half (find p halves) all.0 (found-serves h p halves all.1) (p half)
 

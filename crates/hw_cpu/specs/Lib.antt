@@ -1,2 +1,3 @@
+pub mod FetchPages
 pub mod Site
 pub mod Steps

@@ -90,7 +90,7 @@ pub fn store<B: Bus>(bus: &mut B, at: Reached, kind: StoreKind, address: u32, va
 }
 
 /// A linked load, which is passed.
-#[cold]
+#[inline(always)]
 pub fn load_linked<B: Bus>(
     regs: &mut Regs,
     bus: &mut B,
@@ -121,7 +121,7 @@ fn is_line(link: Option<u32>, line: u32) -> bool
 }
 
 /// A conditional store, which is passed, and whether it was made.
-#[cold]
+#[inline(always)]
 pub fn store_conditional<B: Bus>(
     regs: &mut Regs,
     bus: &mut B,

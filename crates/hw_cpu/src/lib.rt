@@ -8,4 +8,5 @@ mod stepping;
 
 pub use base_words::{Access, DataAccess, HwStep, TrapCause};
 pub use bus::Bus;
+pub use reaching::FetchPage;
 pub use stepping::step;

@@ -5,7 +5,9 @@ ghost use Rattle.base_words.specs.Place.{is_store as is_store_of, segment};
 ghost use Rattle.hw_tlb.specs.Tlb.{halves};
 ghost use Rattle.private_machine.specs.Serving.{Backs, BacksAlone, AllServe};
 ghost use Rattle.private_machine.specs.Reaching.{reached, through_half};
+ghost use Rattle.private_machine.specs.Reaching.{fetch_at};
 ghost use Rattle.hw_cpu.specs.Steps.{sight_of, wanted_at, found_of, is_within};
+ghost use Rattle.hw_cpu.specs.FetchPages.{IsFetchPage};
 
 use crate::Bus;
 use base_words::{FrameNo, Ppn, Use};
@@ -16,6 +18,14 @@ use hw_tlb::{HwAnswer, HwTlb};
 pub struct Reached {
     pub page: Ppn,
     pub frame: FrameNo,
+}
+
+/// What all fetches from one virtual page reach.
+#[derive(Clone, Copy, Debug, PartialEq, Eq)]
+pub struct FetchPage {
+    /// The virtual page's number.
+    pub number: u32,
+    pub at: Reached,
 }
 
 /// Why an access reaches no frame.
@@ -37,6 +47,9 @@ pub struct Mode {
     pub user: bool,
     pub asid: u8,
 }
+
+/// The bytes of a page.
+const PAGE: u32 = 4096;
 
 /// Whether an address lies in the mode's ranges.
 #[inline(always)]
@@ -110,4 +123,33 @@ pub fn reach<B: Bus>(
         return Err(Lack::Range);
     }
     find(mode, tlb, bus, purpose, address)
+}
+
+/// The same of a fetch. What it reached last is asked first.
+#[inline(always)]
+pub fn fetch<B: Bus>(
+    mode: Mode,
+    tlb: &HwTlb,
+    bus: &B,
+    last: &mut Option<FetchPage>,
+    pc: u32,
+) -> Result<Reached, Lack>
+    requires serves { AllServe (B.held bus.now) (halves tlb.now) }
+    requires last { IsFetchPage (sight_of mode.user mode.asid false (halves tlb.now) (B.site bus.now)) last.old }
+    ensures found { found_of result ≡ reached (sight_of mode.user mode.asid false (halves tlb.now) (B.site bus.now)) (fetch_at pc) }
+    ensures backed { IfOk result (λ at. Backs (B.held bus.now) at.page.0 at.frame.0) }
+    ensures last { IsFetchPage (sight_of mode.user mode.asid false (halves tlb.now) (B.site bus.now)) last.new }
+{
+    if let Some(page) = *last
+        && page.number == pc / PAGE
+        && pc % 4 == 0
+    {
+        return Ok(page.at);
+    }
+    let at = reach(mode, tlb, bus, Use::Fetch, 4, pc)?;
+    *last = Some(FetchPage {
+        number: pc / PAGE,
+        at,
+    });
+    Ok(at)
 }

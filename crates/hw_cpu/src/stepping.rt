@@ -9,10 +9,11 @@ ghost use Rattle.private_machine.specs.HardwareStep.{accesses, decodes, fetch_tr
 ghost use Rattle.private_machine.specs.DirectAccess.{outcome_of, hardware_outcome, store_told, load_told};
 ghost use Rattle.private_machine.specs.Serving.{AllServe};
 ghost use Rattle.hw_cpu.specs.Steps.{sight_of, place_of, want_of, Does};
+ghost use Rattle.hw_cpu.specs.FetchPages.{IsFetchPage};
 
 use crate::Bus;
 use crate::accesses::{load, load_linked, store, store_conditional, word_at};
-use crate::reaching::{Lack, Mode, Reached, reach};
+use crate::reaching::{FetchPage, Lack, Mode, Reached, fetch, reach};
 use base_words::{Access, Cp0Op, DataAccess, HwStep, Regs, Request, TrapCause, Use};
 use hw_tlb::HwTlb;
 use mips_alu::{advance, execute, load_unit, store_unit};
@@ -195,7 +196,7 @@ fn decide<B: Bus>(
 }
 
 /// Makes one step, or tells why the processor traps, and then nothing changes. `line` tells whether an interrupt is enabled
-/// and pending.
+/// and pending; `last` is what the fetches of the last page reached, as long as the mode, the address space and the TLB stay.
 #[inline(always)]
 pub fn step<B: Bus>(
     regs: &mut Regs,
@@ -204,17 +205,20 @@ pub fn step<B: Bus>(
     line: bool,
     tlb: &HwTlb,
     bus: &mut B,
+    last: &mut Option<FetchPage>,
 ) -> HwStep
-    requires { AllServe (B.held bus.old) (halves tlb.now) }
+    requires serves { AllServe (B.held bus.old) (halves tlb.now) }
+    requires last { IsFetchPage (sight_of user asid false (halves tlb.now) (B.site bus.old)) last.old }
     ensures names { B.names bus.new ≡ B.names bus.old }
     ensures site { B.site bus.new ≡ B.site bus.old }
     ensures does { Does (hardware_outcome (sight_of user asid line (halves tlb.now) (B.site bus.old)) (B.site bus.old).stepping (B.held bus.old) regs.old) regs.old regs.new (B.held bus.old) (B.held bus.new) result }
+    ensures last { IsFetchPage (sight_of user asid false (halves tlb.now) (B.site bus.old)) last.new }
 {
     if line {
         return HwStep::Trap(TrapCause::Line);
     }
     let mode = Mode { user, asid };
-    match reach(mode, tlb, bus, Use::Fetch, 4, regs.pc) {
+    match fetch(mode, tlb, bus, last, regs.pc) {
         Ok(at) => {
             let word = word_at(bus, at, regs.pc);
             decide(regs, mode, tlb, bus, at, word)

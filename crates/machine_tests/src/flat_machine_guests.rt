@@ -133,10 +133,7 @@ pub fn make_steps(flat: &mut Flat, vcpu: u8, count: u32) -> Result<(), AllocErro
     requires { vcpu < length flat.old.vcpus }
     ensures { length flat.new.vcpus ≡ length flat.old.vcpus }
 {
-    for _ in 0..count {
-        flat.own_event(&OwnEvent::Step(VcpuId(vcpu)))?;
-    }
-    Ok(())
+    flat.run(VcpuId(vcpu), u64::from(count))
 }
 
 /// Lets something happen to a guest of so many virtual processors.

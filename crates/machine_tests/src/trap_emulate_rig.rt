@@ -1,5 +1,5 @@
 //! For the tests: a step of virtual processor 1 of 2, in a guest of 16 pages.
-ghost use Rattle.std.specs.Prelude.{◌≡◌, IfSome, false, Option};
+ghost use Rattle.std.specs.Prelude.{◌≡◌, IfOk, IfSome, false, Option};
 ghost use Rattle.private_machine.specs.Showing.{shown_by};
 ghost use Rattle.machine_tests.specs.StandIn.{Traps};
 
@@ -132,14 +132,18 @@ pub fn started(start: &Start) -> Vcpu
 }
 
 /// Why the hardware traps, with no half, or at a word.
-fn trap(vcpu: &Vcpu, needs: Option<MoveKind>, word: Option<u32>) -> Option<TrapCause>
-    ensures { IfSome result (Traps vcpu.now PAGES needs) }
+fn trap(
+    vcpu: &Vcpu,
+    needs: Option<MoveKind>,
+    word: Option<u32>,
+) -> Result<Option<TrapCause>, AllocError>
+    ensures { IfOk result (λ cause. IfSome cause (Traps vcpu.now PAGES needs)) }
 {
     match word {
-        None => trap_with_no_half(vcpu, PAGES),
+        None => Ok(trap_with_no_half(vcpu, PAGES)),
         Some(word) => {
-            let mut copy = *vcpu;
-            trap_at_word(&mut copy, PAGES, needs, word)
+            let mut copy = vcpu.clone()?;
+            Ok(trap_at_word(&mut copy, PAGES, needs, word))
         }
     }
 }
@@ -165,24 +169,38 @@ pub fn step(
 ) -> Result<Option<Outcome>, AllocError>
     requires { shown_by vcpu.now ≡ record { halted = false; called = false; packet = false } }
 {
-    let Some(cause) = trap(vcpu, needs, word) else {
+    let Some(cause) = trap(vcpu, needs, word)? else {
         return Ok(None);
     };
     let mut devs = Devs::new(alloc, 2, PAGES, &InputList::new(alloc))?;
     devs.reserve()?;
-    let mut vcpus = [Vcpu::new(0), *vcpu];
+    let mut vcpus = [Vcpu::new(0), vcpu.clone()?];
     let standing = Standing {
         vcpu: VcpuId(1),
         pages: PAGES,
         store_needs: needs,
     };
     let told = emulate(&mut vcpus, &standing, cause, &mut devs);
+    let after = vcpus[1].clone()?;
     Ok(Some(Outcome {
         cause,
         told,
-        vcpu: vcpus[1],
+        vcpu: after,
         status: devs.transfer(VcpuId(1)).status,
         halted: devs.halted(VcpuId(1)),
         devs,
     }))
+}
+
+/// Whether two virtual processors are alike in all that they hold.
+pub fn are_alike(one: &Vcpu, other: &Vcpu) -> bool {
+    let mut alike = one.registers == other.registers
+        && one.tlb == other.tlb
+        && one.link == other.link
+        && one.halted == other.halted
+        && one.steps == other.steps;
+    for number in 0..16 {
+        alike = alike && one.cp0.read(number) == other.cp0.read(number);
+    }
+    alike
 }

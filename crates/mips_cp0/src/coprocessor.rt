@@ -1,6 +1,9 @@
 //! Coprocessor 0 as the rest of the processor uses it.
 ghost use Rattle.std.specs.Prelude.{◌≡◌, ◌<◌, false};
-ghost use Rattle.base_words.specs.Coprocessor.{at_reset as at_reset_of, register_at, reads, writes, probe_answered, in_user_mode, interrupts, line_set, ticked, next_random as next_random_of, with_line as with_line_of};
+ghost use Rattle.base_words.specs.Fields.{sum};
+ghost use Rattle.base_words.specs.Coprocessor.{at_reset as at_reset_of, register_at, reads, writes, probe_answered, in_user_mode, interrupts, line_set, ticked, with_line as with_line_of};
+ghost use Rattle.mips_cp0.specs.Behind.{random_after as random_after_of, Meets};
+ghost use Rattle.mips_cp0.specs.Quiet.{IsQuiet};
 ghost use Rattle.base_words.specs.Exception.{entered, vector as vector_of, handling, with_restart, with_details};
 
 use crate::exceptions::{Details, describe};
@@ -14,10 +17,15 @@ const REFILL_VECTOR: u32 = 0xC000_0000;
 /// Where all other exceptions are handled.
 const GENERAL_VECTOR: u32 = 0xC000_0180;
 
-/// Coprocessor 0.
-#[derive(Clone, Copy, Debug, PartialEq, Eq)]
+/// Coprocessor 0. Most steps change nothing of it but Random and Count, so these are brought up to date only when they are read, or
+/// when the timer comes.
+#[derive(Clone, Debug, Drop)]
 pub struct Cp0 {
+    /// The registers as they were `ticks` steps ago.
     registers: Cp0Registers,
+    ticks: u64,
+    /// After how many steps from then on Count comes to Compare: 1 to 2^32.
+    left: u64,
 }
 
 impl Model for Cp0 {
@@ -25,9 +33,11 @@ impl Model for Cp0 {
 
     ghost Value = { Cp0Registers };
 
-    ghost view = { λ c. c.registers };
+    ghost use Rattle.mips_cp0.specs.Behind.{held_now, IsBehind};
 
-    ghost inverse = { λ r. record { registers = r } };
+    ghost view = { held_now };
+
+    ghost invariant = { IsBehind };
 }
 
 /// EPC and BD, which stay where an exception is being handled already.
@@ -55,16 +65,38 @@ fn keep_details(registers: &mut Cp0Registers, told: Details)
     }
 }
 
-/// Random after a step: it counts down to Wired, and then begins again.
-#[inline(always)]
-fn next_random(random: EntryNumber, wired: EntryNumber) -> EntryNumber
-    ensures { result ≡ next_random_of random wired }
+/// Random so many steps later: it counts down to Wired, and then from 47 to Wired again and again; from Wired on, if that is past 47, it
+/// stays 47.
+fn random_after(random: EntryNumber, wired: EntryNumber, steps: u64) -> EntryNumber
+    ensures { result ≡ random_after_of steps random wired }
 {
-    if random.value() <= wired.value() {
-        Field::new(LAST_ENTRY)
-    } else {
-        Field::new(random.value() - 1)
+    let down = u64::from(random.value().saturating_sub(wired.value()));
+    if steps <= down {
+        return Field::new(random.value() - steps as u32);
     }
+    if LAST_ENTRY <= wired.value() {
+        return Field::new(LAST_ENTRY);
+    }
+    let turn = u64::from(LAST_ENTRY + 1 - wired.value());
+    Field::new(LAST_ENTRY - ((steps - down - 1) % turn) as u32)
+}
+
+/// After how many steps Count comes to Compare.
+fn steps_to(count: u32, compare: u32) -> u64
+    ensures { Meets count compare result }
+{
+    let left = compare.wrapping_sub(count);
+    if left == 0 { 1 << 32 } else { u64::from(left) }
+}
+
+/// A step is done at which Count comes to Compare: Random and Count move on, and the timer interrupts.
+fn meet(registers: &mut Cp0Registers)
+    requires { sum registers.old.count 1 ≡ registers.old.compare }
+    ensures { registers.new ≡ ticked registers.old }
+{
+    registers.random = random_after(registers.random, registers.wired, 1);
+    registers.count = registers.count.wrapping_add(1);
+    registers.cause.pending.timer = true;
 }
 
 /// One of the lines IP2 to IP4 is on or off.
@@ -80,27 +112,51 @@ fn set_line(pending: &mut Pending, ip: u8, on: bool)
 }
 
 impl Cp0 {
+    /// Coprocessor 0 that holds this.
+    fn of(registers: Cp0Registers) -> Self
+        ensures { result ≡ registers }
+    {
+        let left = steps_to(registers.count, registers.compare);
+        Cp0 {
+            registers,
+            ticks: 0,
+            left,
+        }
+    }
+
+    /// What it holds now.
+    fn held(&self) -> Cp0Registers
+        ensures { result ≡ self.now }
+    {
+        let registers = &self.registers;
+        Cp0Registers {
+            random: random_after(registers.random, registers.wired, self.ticks),
+            count: registers.count.wrapping_add(self.ticks as u32),
+            ..*registers
+        }
+    }
+
     /// Coprocessor 0 at the start: all registers are 0, but Random is 47.
     pub fn new() -> Self
         ensures { result ≡ at_reset_of }
     {
-        Cp0 {
-            registers: at_reset(),
-        }
+        Cp0::of(at_reset())
     }
 
     /// What MFC0 reads of the register at a number; 0 where none is.
     pub fn read(&self, number: u8) -> u32
         ensures { result ≡ reads self.now (register_at number) }
     {
-        read(&self.registers, register(number))
+        read(&self.held(), register(number))
     }
 
     /// MTC0: writes a word to the register at a number, which keeps what it holds of it.
     pub fn write(&mut self, number: u8, value: u32)
         ensures { self.new ≡ writes self.old (register_at number) value }
     {
-        write(&mut self.registers, register(number), value);
+        let mut registers = self.held();
+        write(&mut registers, register(number), value);
+        *self = Cp0::of(registers);
     }
 
     /// Takes an exception at `pc`, which may be in a delay slot, and answers where it is handled.
@@ -134,10 +190,35 @@ impl Cp0 {
     pub fn tick(&mut self)
         ensures { self.new ≡ ticked self.old }
     {
-        self.registers.random = next_random(self.registers.random, self.registers.wired);
-        self.registers.count = self.registers.count.wrapping_add(1);
-        if self.registers.count == self.registers.compare {
-            self.registers.cause.pending.timer = true;
+        let ticks = self.ticks + 1;
+        if ticks == self.left {
+            self.meet();
+        } else {
+            self.ticks = ticks;
+        }
+    }
+
+    /// The same where Count comes to Compare.
+    #[cold]
+    #[inline(never)]
+    fn meet(&mut self)
+        requires { sum self.old.count 1 ≡ self.old.compare }
+        ensures { self.new ≡ ticked self.old }
+    {
+        let mut registers = self.held();
+        meet(&mut registers);
+        *self = Cp0::of(registers);
+    }
+
+    /// For how many steps from now on, if nothing but these changes it, no interrupt is enabled and pending. It may be more.
+    #[inline]
+    pub fn quiet_steps(&self) -> u64
+        ensures { IsQuiet result self.now }
+    {
+        if self.pending() {
+            0
+        } else {
+            self.left - self.ticks
         }
     }
 
@@ -161,6 +242,14 @@ impl Cp0 {
         let mut pending = self.registers.cause.pending;
         pending.input = waits;
         status.enabled && !status.exception && u32::from(status.mask) & pending_bits(&pending) != 0
+    }
+
+    /// Whether the line IP2, for console input, is on.
+    #[inline]
+    pub fn input(&self) -> bool
+        ensures { result ≡ self.now.cause.pending.input }
+    {
+        self.registers.cause.pending.input
     }
 
     /// Whether user code runs, and no exception is being handled.
@@ -192,7 +281,8 @@ impl Cp0 {
         ensures entry { result ≡ self.now.random }
         ensures within { result < 64 }
     {
-        self.registers.random.value() as u8
+        let registers = &self.registers;
+        random_after(registers.random, registers.wired, self.ticks).value() as u8
     }
 
     /// Sets a line on or off: IP2 is console input, IP3 a packet, IP4 another virtual processor. The other interrupts

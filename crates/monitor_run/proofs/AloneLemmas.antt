@@ -25,14 +25,6 @@ pub private_run-append : (m : PrivateMachine) (xs ys : List OwnEvent) → privat
 private_run-append m [] ys = refl
 private_run-append m (e ∷ xs) ys = private_run-append (own_event m e) xs ys
 
-run_again : (m : PrivateMachine) (n : ℕ) (e : OwnEvent) → private_run m (replicate (suc n) e) ≡ own_event (private_run m (replicate n e)) e
-run_again m zero e = refl
-run_again m (suc n) e = run_again (own_event m e) n e
-
--- the same event once more
-pub private_run-again : (m : PrivateMachine) (n : ℕ) (e : OwnEvent) → private_run m (replicate (n + 1) e) ≡ own_event (private_run m (replicate n e)) e
-private_run-again m n e = rw add-one (run_again m n e)
-
 -- ---- items
 
 -- the run over the items that are left goes on by the next

@@ -20,7 +20,7 @@ use Rattle.machine_desc.specs.Described.{Described}
 use Rattle.guest_core.specs.declared.records.GuestRecord.{GuestRecord}
 use Rattle.guest_core.specs.declared.records.RunRecord.{RunRecord}
 use Rattle.guest_core.specs.Records.{IsRecord}
-use Rattle.run_workers.specs.Starting.{AreStarts, IsStart}
+use Rattle.guest_boot.specs.Starting.{AreStarts, IsStart}
 use Rattle.run_workers.specs.WholeRecord.{AreRecords, IsWhole}
 use Rattle.admission.specs.Starts.{Start}
 use Rattle.admission.specs.Started.{AreStarted, IsStarted}

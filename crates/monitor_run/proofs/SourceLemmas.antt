@@ -14,8 +14,8 @@ use Rattle.guest_course.specs.BootCalls.{given_blocks}
 use Rattle.machine_desc.specs.declared.machine.GuestSpec.{GuestSpec}
 use Rattle.admission.specs.Started.{AreStarted, IsStarted}
 use Rattle.admission.specs.Views.{disk_numbered, image_seen, paired}
-use Rattle.run_workers.specs.declared.source.Source.{Source}
-use Rattle.run_workers.specs.Starting.{AreSources, IsSource}
+use Rattle.guest_boot.specs.declared.source.Source.{Source}
+use Rattle.guest_boot.specs.Starting.{AreSources, IsSource}
 use Rattle.monitor_run.specs.Sources.{shared_blocks, source_of, sources_of}
 
 -- a disk of which nothing is written has the blocks of which it was made

@@ -10,7 +10,7 @@ use Rattle.machine_desc.specs.Described.{Described}
 use Rattle.guest_course.specs.CourseView.{got_of}
 use Rattle.guest_core.specs.declared.records.GuestRecord.{GuestRecord}
 use Rattle.guest_core.specs.declared.records.RunRecord.{RunRecord}
-use Rattle.run_workers.specs.Starting.{around_of, IsPlaced}
+use Rattle.guest_boot.specs.Starting.{around_of, IsPlaced}
 use Rattle.run_workers.specs.WholeRecord.{IsWhole}
 use Rattle.admission.specs.Starts.{Start}
 

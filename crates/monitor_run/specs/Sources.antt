@@ -7,7 +7,7 @@ use Rattle.base_words.specs.declared.page.Page.{Page}
 use Rattle.elf_image.specs.declared.image.Image.{Image}
 use Rattle.private_machine.specs.Disk.{as_given}
 use Rattle.admission.specs.Views.{disk_numbered, disks_seen}
-use Rattle.run_workers.specs.declared.source.Source.{Source}
+use Rattle.guest_boot.specs.declared.source.Source.{Source}
 
 -- the blocks of disks that guests share
 abbrev pub shared_blocks : List (Arc (List (Box Page)) Global) → List (List (List ℕ))

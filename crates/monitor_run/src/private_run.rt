@@ -1,7 +1,6 @@
 //! Guests that run alone, one after the other, each on its private machine.
-ghost use Rattle.std.specs.Prelude.{◌≡◌, ◌+◌, ◌<◌, [], ◌∷◌, All, IfOk, OnOk, length, replicate, slice_get, option_map};
+ghost use Rattle.std.specs.Prelude.{◌≡◌, ◌+◌, ◌<◌, [], ◌∷◌, All, IfOk, OnOk, length, slice_get, option_map};
 ghost use Rattle.std.specs.Option.{option_map_or};
-ghost use Rattle.base_words.specs.declared.events.OwnEvent.TheVariants.{Step};
 ghost use Rattle.private_machine.specs.PrivateRun.{private_run};
 ghost use Rattle.flat_machine.specs.FlatView.{disk_of as blocks_of_disk};
 ghost use Rattle.machine_desc.specs.Described.{described_seen};
@@ -10,25 +9,12 @@ ghost use Rattle.admission.specs.Views.{disks_seen, disk_numbered as disk_of_num
 ghost use Rattle.monitor_run.specs.Alone.{item_events, own_events, end_alone as end_of_alone, left_alone, machine_alone, left_from, alone_of, MayRun};
 
 use admission::Setup;
-use base_words::{Blocks, End, GuestId, InputList, OwnEvent, VcpuId};
+use base_words::{Blocks, End, GuestId, InputList, VcpuId};
 use elf_image::Image;
 use flat_machine::Flat;
 use machine_desc::{GuestSpec, Item};
 use run_report::{Alone, AloneList};
 use std::alloc::{AllocError, Global};
-
-/// Makes so many steps of a virtual processor.
-fn run_steps(flat: &mut Flat, vcpu: VcpuId, steps: u64) -> Result<(), AllocError>
-    requires { vcpu.0 < length flat.old.vcpus }
-    ensures count { length flat.new.vcpus ≡ length flat.old.vcpus }
-    ensures made { OnOk result (flat.new ≡ private_run flat.old (replicate steps (Step vcpu))) }
-{
-    let step = OwnEvent::Step(vcpu);
-    for _ in 0..steps {
-        flat.own_event(&step)?;
-    }
-    Ok(())
-}
 
 /// Carries out one item, where it is a run of this guest.
 fn run_item(flat: &mut Flat, guest: usize, item: &Item) -> Result<(), AllocError>
@@ -44,7 +30,7 @@ fn run_item(flat: &mut Flat, guest: usize, item: &Item) -> Result<(), AllocError
             ..
         } => {
             if of.0 as usize == guest {
-                run_steps(flat, *vcpu, *steps)
+                flat.run(*vcpu, *steps)
             } else {
                 Ok(())
             }

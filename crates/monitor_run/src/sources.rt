@@ -9,7 +9,7 @@ ghost use Rattle.monitor_run.specs.Sources.{shared_blocks, sources_of};
 use admission::{DiskList, ImageList};
 use base_words::{Blocks, Sequence};
 use cow_disk::Disk;
-use run_workers::{Source, SourceList};
+use guest_boot::{Source, SourceList};
 use std::alloc::{AllocError, Global};
 use std::sync::Arc;
 

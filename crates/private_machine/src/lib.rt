@@ -7,4 +7,4 @@ mod vcpu;
 mod vcpus;
 
 pub use vcpu::Vcpu;
-pub use vcpus::{show, unlink_all, unlink_others, unlink_page};
+pub use vcpus::{new_vcpus, show, unlink_all, unlink_others, unlink_page};

@@ -24,7 +24,7 @@ const LINES: u32 = 128;
 
 /// A virtual processor: its registers, coprocessor 0, the guest's TLB, the line of 32 bytes that it has linked, whether it has
 /// halted, and how many own steps it made.
-#[derive(Clone, Copy, Debug, PartialEq, Eq)]
+#[derive(Clone, Debug, Drop)]
 pub struct Vcpu {
     pub registers: Regs,
     pub cp0: Cp0,

@@ -1,10 +1,19 @@
 //! The virtual processors of a guest together.
-ghost use Rattle.std.specs.Prelude.{◌≡◌, ◌<◌, length, map};
+ghost use Rattle.std.specs.Prelude.{◌≡◌, ◌<◌, IfOk, length, map, replicate};
+ghost use Rattle.private_machine.specs.Vcpu.{started};
 ghost use Rattle.private_machine.specs.Links.{unlinked, unlinked_page, unlinked_others as unlinked_others_of};
 ghost use Rattle.private_machine.specs.Showing.{shown_by, shown_from, showing_from};
 
 use crate::Vcpu;
 use base_words::Ppn;
+use std::alloc::{AllocError, Global};
+
+/// So many virtual processors at their start, whose first instruction stands at this address.
+pub fn new_vcpus(alloc: Global, entry: u32, count: u8) -> Result<Vec<Vcpu>, AllocError>
+    ensures { IfOk result (λ vcpus. vcpus.items ≡ replicate count (started entry)) }
+{
+    vec![in alloc; Vcpu::new(entry); count as usize]
+}
 
 /// Clears the links to a line of all but the one that stores into it.
 #[inline]

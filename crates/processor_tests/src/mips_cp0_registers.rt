@@ -361,6 +361,8 @@ fn a_timer_set_by_a_program_interrupts_after_so_many_steps(rt: HostRuntime) {
     cp0.tick();
     cp0.write(STATUS, 0x8001);
     cp0.tick();
+    // 16 steps bring Count from 4 to 20
+    assert_eq!(rt; cp0.quiet_steps(), 16);
     for _ in 4..19 {
         cp0.tick();
         assert!(rt; !cp0.pending());
@@ -369,6 +371,7 @@ fn a_timer_set_by_a_program_interrupts_after_so_many_steps(rt: HostRuntime) {
     cp0.tick();
     reads(&rt, &cp0, COUNT, 20);
     assert!(rt; cp0.pending());
+    assert_eq!(rt; cp0.quiet_steps(), 0);
     enters(
         &rt,
         &mut cp0,

@@ -6,9 +6,6 @@ pub mod PacketLemmas
 pub mod RunLemmas
 pub mod ServingLemmas
 pub mod TopLemmas
-pub mod LotLemmas
-pub mod CacheLemmas
-pub mod BootLemmas
 pub mod EndLemmas
 pub mod DrainLemmas
 pub mod SettledLemmas

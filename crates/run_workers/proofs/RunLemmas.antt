@@ -24,7 +24,7 @@ use Rattle.plan_due.specs.declared.outcome.Outcome.{Outcome}
 use Rattle.run_workers.specs.Working.{cell_in}
 use Rattle.run_workers.specs.Workers.{IsReady, Works}
 use Rattle.run_workers.specs.Parts.{token_of, outcomes_of}
-use Rattle.run_workers.specs.Booting.{start_of, IsFresh}
+use Rattle.guest_boot.specs.Booting.{start_of, IsFresh}
 use Rattle.run_workers.specs.Ending.{AreLeft, AllTold}
 use Rattle.std.proofs.lemmas.List.Elements.{All-nil, All-cons}
 use Rattle.wire_queue.specs.Between.{Made, guest_count}

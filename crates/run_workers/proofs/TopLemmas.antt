@@ -1,15 +1,14 @@
 -- From a description to the run of its guests.
-use Rattle.std.proofs.Common.{◌≡◌, ℕ, zero, suc, ◌+◌, ◌<◌, List, [], ◌∷◌, map, length, refl, sym, ap, ◌∙◌, subst, arith, inl, inr, Option, Some, None, Result, Ok, Err, IfOk}
+use Rattle.std.proofs.Common.{◌≡◌, ℕ, zero, suc, ◌+◌, ◌<◌, List, [], ◌∷◌, map, length, refl, sym, ap, ◌∙◌, subst, arith, inl, inr, Option, Some, None}
 use Rattle.std.specs.Prelude.{slice_get, slice_index_or}
 use Rattle.std.specs.Option.{IsSomeAnd}
-use Rattle.std.specs.declared.alloc.AllocError.{AllocError}
 use Rattle.std.proofs.lemmas.List.{length-map}
 use Rattle.atomic_table.specs.Seated.{TableId}
 use Rattle.base_words.specs.declared.input.InputEntry.{InputEntry}
 use Rattle.base_words.specs.declared.ids.NodeId.{NodeId}
 use Rattle.base_words.specs.declared.moves.MoveKind.{MoveKind}
 use Rattle.base_words.specs.declared.moves.MoveKind.TheVariants.{Migrate, Replicate, Collapse, Break, TakeShared, GiveShared}
-use Rattle.run_workers.specs.declared.source.Source.{Source}
+use Rattle.guest_boot.specs.declared.source.Source.{Source}
 use Rattle.frame_words.specs.Holders.{Holding}
 use Rattle.shootdown.specs.Notes.{Token}
 use Rattle.shootdown.specs.Making.{numbered, fresh_token}
@@ -28,12 +27,11 @@ use Rattle.wire_queue.specs.declared.lists.PassList.{PassList}
 use Rattle.guest_core.specs.GuestView.{Monitored, Shared}
 use Rattle.guest_core.specs.MoveCalls.{IsPlanned}
 use Rattle.guest_core.specs.declared.records.RunRecord.{RunRecord}
-use Rattle.run_workers.specs.Starting.{around_of, IsStart, AreStarts, AreSources}
+use Rattle.guest_boot.specs.Starting.{around_of, IsStart, AreStarts, IsSource}
 use Rattle.run_workers.specs.WholeRecord.{IsWhole}
 use Rattle.run_workers.specs.Working.{cell_in, ItemFits, IsOn}
-use Rattle.run_workers.specs.Booting.{start_of, IsFresh, IsStarted, AreBooted, HasBooted}
+use Rattle.guest_boot.specs.Booting.{start_of, IsFresh, IsStarted, AreBooted, HasBooted}
 use Rattle.run_workers.specs.Named.{board_of_tokens, MayRun, IsRunOf}
-use Rattle.run_workers.proofs.BootLemmas.{source-at, sources-count}
 use Rattle.run_workers.proofs.WholeLemmas.{get-index, get-there}
 use Rattle.run_workers.proofs.RunLemmas.{map-get, numbered-length}
 use Rattle.run_workers.proofs.PacketLemmas.{meet-wires}
@@ -56,6 +54,10 @@ started-at d sources board shared guests g guest are at =
     let source = get-there sources g (omega arith) in
     (source.0, source.1, are.each g guest source.0 at source.1)
 
+-- each source is its own guest's
+abbrev pub AreTheirGuests : List GuestSpec → List Source → Type 0
+AreTheirGuests specs sources = (g : ℕ) (source : Source) (spec : GuestSpec) → slice_get sources g ≡ Some source → slice_get specs g ≡ Some spec → IsSource spec source
+
 -- a move leads to a node, and may be asked for
 kind-fits : (nodes page : ℕ) (spec : GuestSpec) (kind : MoveKind) (node : NodeId) (w : Surroundings) → IsGuest nodes spec → w.home ≡ spec.node.0 → LeadsTo nodes spec kind node
     → (node.0 < nodes) × IsPlanned w (record { page = page; kind = kind; node = node.0 })
@@ -66,7 +68,7 @@ kind-fits nodes page spec Break node w is home to = absurd to
 kind-fits nodes page spec TakeShared node w is home to = absurd to
 kind-fits nodes page spec GiveShared node w is home to = absurd to
 
-item-fits : (d : Described) (sources : List Source) (board : TableId) (shared : Shared) (guests : List Monitored) (item : Item) → IsAccepted d → length guests ≡ length d.guests → AreSources d.guests sources → AreBooted d sources board shared guests → IsItem d item → ItemFits (map start_of guests) item
+item-fits : (d : Described) (sources : List Source) (board : TableId) (shared : Shared) (guests : List Monitored) (item : Item) → IsAccepted d → length guests ≡ length d.guests → AreTheirGuests d.guests sources → AreBooted d sources board shared guests → IsItem d item → ItemFits (map start_of guests) item
 item-fits d sources board shared guests (Run p g v steps) accepted count from are is = by (slice_get d.guests g.0) refl is.of
   where
     by : (o : Option GuestSpec) → slice_get d.guests g.0 ≡ o → IsSomeAnd o (λ spec. v.0 < spec.vcpus) → ItemFits (map start_of guests) (Run p g v steps)
@@ -89,7 +91,7 @@ item-fits d sources board shared guests (Move p g page kind node) accepted count
         let guest = get-there guests g.0 (let l : g.0 < length guests = omega arith in l) in
         let started = started-at d sources board shared guests g.0 guest.0 are guest.1 in
         let same = same-some started.2.spec spec (sym started.2.spec_is ∙ e) in
-        let source = source-at d.guests sources g.0 started.0 spec from started.1 e in
+        let source = from g.0 started.0 spec started.1 e in
         let b = guest.0.start in
         let pages : b.image.pages ≡ spec.pages = ap (λ (i : Given). i.pages) started.2.start.image_is ∙ source.pages in
         let wide : length b.around.nodes ≡ d.nodes = ap (λ (w : Surroundings). length w.nodes) started.2.start.around ∙ length-map d.cells (λ c. c.0) ∙ accepted.in_cells in
@@ -122,9 +124,8 @@ cells-at d sources board shared guests (x ∷ all) are g guest at p within =
     let other : cell_of_processor x.start.around p ≡ cell_of_processor (around_of d 0 first.spec) p = ap (λ (w : Surroundings). cell_of_processor w p) first.start.around in
     one ∙ sym other
 
-pub may-run : (d : Described) (sources : List Source) (guests : List Monitored) (tokens : List Token) (shared : Shared) (holder : Holding) → IsAccepted d → AreSources d.guests sources → HasBooted d sources guests tokens shared holder → MayRun guests tokens shared d.items
-may-run d sources guests tokens shared holder accepted from booted =
-    let many = sources-count d.guests sources from in
+pub may-run : (d : Described) (sources : List Source) (guests : List Monitored) (tokens : List Token) (shared : Shared) (holder : Holding) → IsAccepted d → length sources ≡ length d.guests → AreTheirGuests d.guests sources → HasBooted d sources guests tokens shared holder → MayRun guests tokens shared d.items
+may-run d sources guests tokens shared holder accepted many from booted =
     let board = booted.board in
     let are = booted.guests_are in
     let count = are.count in
@@ -196,7 +197,3 @@ is-whole d boots wires out lists is numbers ordered = record {
   due = is.due;
   packets = meet-wires boots wires is.states out.guests lists is.told numbers is.drained ordered;
 }
-
-pub on-ok : {A : Type 0} (P Q : A → Type 0) (r : Result A AllocError) → ((x : A) → P x → Q x) → IfOk r P → IfOk r Q
-on-ok P Q (Ok x) then holds = then x holds
-on-ok P Q (Err e) then holds = tt

@@ -1,9 +1,7 @@
-pub mod Starting
 pub mod WholeRecord
 pub mod Working
 pub mod Draining
 pub mod Ending
 pub mod Workers
 pub mod Parts
-pub mod Booting
 pub mod Named

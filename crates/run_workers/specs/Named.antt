@@ -14,7 +14,7 @@ use Rattle.wire_queue.specs.Between.{Made, guest_count}
 use Rattle.wire_queue.specs.declared.lists.PassList.{PassList}
 use Rattle.run_workers.specs.WholeRecord.{AreRecords, AllDue}
 use Rattle.run_workers.specs.Working.{cell_in, ItemFits, IsOn}
-use Rattle.run_workers.specs.Booting.{no_board, start_of, IsFresh}
+use Rattle.guest_boot.specs.Booting.{no_board, start_of, IsFresh}
 use Rattle.run_workers.specs.Ending.{AllTold, EndDrained}
 use Rattle.machine_desc.specs.Bounds.{item_fails}
 

@@ -5,14 +5,12 @@ ghost use Rattle.node_frames.specs.Layout.{layout_of};
 ghost use Rattle.isolation_law.specs.Start.{Boot};
 ghost use Rattle.machine_desc.specs.Described.{described_seen};
 ghost use Rattle.machine_desc.specs.Accepted.{IsDescribed};
-ghost use Rattle.run_workers.specs.Starting.{AreSources, AreStarts, AreServed};
+ghost use Rattle.guest_boot.specs.Starting.{AreSources, AreStarts, AreServed};
 ghost use Rattle.run_workers.specs.WholeRecord.{IsWhole};
-ghost use Rattle.run_workers.specs.Booting.{start_of};
+ghost use Rattle.guest_boot.specs.Booting.{start_of};
 ghost use Rattle.wire_queue.specs.PassLists.{AreAllOf};
 ghost use Rattle.run_workers.specs.Named.{board_of_tokens, MayRun, IsRunOf};
 
-use crate::SourceList;
-use crate::booting::boot;
 use crate::draining::settle_all;
 use crate::ending::end_all;
 use crate::ordering::in_order;
@@ -20,6 +18,7 @@ use crate::workers::{all_work, parts, workers_of};
 use block_caches::end_caches;
 use cow_disk::SharedIndex;
 use frame_words::{FrameTable, Holder, close};
+use guest_boot::{SourceList, boot, sources_are_their_guests};
 use guest_core::{Guest, Resources, RunRecord};
 use guest_lock::{GuestCells, Starts};
 use machine_desc::{Machine, Plan};
@@ -110,6 +109,7 @@ pub fn finish<R: Threads + Wait + Sync, G: Gate>(
     ensures frames { IfOk result (λ f. f.table.terms.frames ≡ machine.now.shape.nodes * machine.now.shape.frames) }
     ensures lends { IfOk result (λ f. f.table.terms.lends ≡ machine.now.lends) }
 {
+    sources_are_their_guests();
     let mut booted = boot(alloc, machine, plan, sources)?;
     let (record, passes) = run_named::<Brand, R, G>(
         rt,

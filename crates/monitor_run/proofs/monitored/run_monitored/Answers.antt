@@ -3,8 +3,8 @@ use Rattle.std.proofs.lemmas.Result.{IfOk-weaker}
 use Rattle.std.specs.Prelude.{All}
 use Rattle.machine_desc.specs.Described.{described_seen}
 use Rattle.admission.specs.Views.{disk_numbered, disks_seen}
-use Rattle.run_workers.specs.declared.source.Source.{Source}
-use Rattle.run_workers.specs.Starting.{AreSources, AreStarts}
+use Rattle.guest_boot.specs.declared.source.Source.{Source}
+use Rattle.guest_boot.specs.Starting.{AreSources, AreStarts}
 use Rattle.monitor_run.specs.Sources.{sources_of}
 use Rattle.monitor_run.proofs.MonitoredLemmas.{IsRun-from}
 use Rattle.monitor_run.proofs.SourceLemmas.{AreSources-started, few-started}

@@ -2,7 +2,7 @@ use Rattle.std.proofs.Common.{rules, ◌≡◌, ◌+◌, ◌<◌, ◌≤◌, ◌
 use Rattle.elf_image.specs.declared.image.Image.{Image}
 use Rattle.private_machine.specs.Disk.{Block}
 use Rattle.admission.specs.Views.{disk_numbered}
-use Rattle.run_workers.specs.declared.source.Source.{Source}
+use Rattle.guest_boot.specs.declared.source.Source.{Source}
 use Rattle.monitor_run.specs.Sources.{shared_blocks, source_of}
 use Rattle.monitor_run.proofs.SourceLemmas.{image-there, sources_of-next}
 use Rattle.monitor_run.proofs.sources.with_disks.Goals as goal

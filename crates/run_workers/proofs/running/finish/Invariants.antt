@@ -1,5 +1,5 @@
 use Rattle.std.proofs.Common.{map}
-use Rattle.run_workers.specs.Booting.{start_of}
+use Rattle.guest_boot.specs.Booting.{start_of}
 use Rattle.run_workers.specs.Named.{board_of_tokens}
 use Rattle.run_workers.proofs.running.finish.Given as goal
 

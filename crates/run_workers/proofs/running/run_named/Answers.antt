@@ -16,7 +16,7 @@ use Rattle.run_workers.specs.Working.{machine_of, IsOn}
 use Rattle.run_workers.specs.WholeRecord.{lefts_of}
 use Rattle.run_workers.specs.Workers.{IsReady, IsPlanOf}
 use Rattle.run_workers.specs.Parts.{token_of, outcomes_of, outcomes_in}
-use Rattle.run_workers.specs.Booting.{start_of}
+use Rattle.guest_boot.specs.Booting.{start_of}
 use Rattle.run_workers.specs.Ending.{AllLeft, AllTold}
 use Rattle.run_workers.specs.Named.{board_of_tokens}
 use Rattle.run_workers.proofs.LeftoverLemmas.{has-left, all-places, fails-once, guest-count}

@@ -14,12 +14,6 @@ returns-in-Load-clause-attempts c = rw c.in-Load.is c.load.ensures.attempts
 pub returns-in-Store-clause-attempts : goal.returns-in-Store-clause-attempts
 returns-in-Store-clause-attempts c = rw c.in-Store.is c.store.ensures.attempts
 
-pub returns-in-LoadLinked-clause-attempts : goal.returns-in-LoadLinked-clause-attempts
-returns-in-LoadLinked-clause-attempts c = rw c.in-LoadLinked.is c.load_linked.ensures.attempts
-
-pub returns-in-StoreConditional-clause-attempts : goal.returns-in-StoreConditional-clause-attempts
-returns-in-StoreConditional-clause-attempts c = rw c.in-StoreConditional.is c.store_conditional.ensures.attempts
-
 pub returns-in-WriteCp0-clause-attempts : goal.returns-in-WriteCp0-clause-attempts
 returns-in-WriteCp0-clause-attempts c =
     let m = machine_of c.args.self.now in
@@ -33,3 +27,9 @@ returns-in-System-clause-attempts c =
     let v = c.args.vcpu.0 in
     rw c.in-System.is (ap Ok (on_vcpu-twice m v (with_registers (passed_system c.in-System.op (vcpu m v).registers))
     (system_done c.in-System.op) c.requires.there ∙ sym c.do_system.ensures.done))
+
+pub returns-in-Err-clause-attempts : goal.returns-in-Err-clause-attempts
+returns-in-Err-clause-attempts c = rw (c.in-LoadLinked.is) c.in-Err.ensures.attempts
+
+pub returns-in-Err-store_conditional-clause-attempts : goal.returns-in-Err-store_conditional-clause-attempts
+returns-in-Err-store_conditional-clause-attempts c = rw (c.in-StoreConditional.is) c.in-Err-store_conditional.ensures.attempts

@@ -1,21 +1,43 @@
-use Rattle.std.proofs.Common.{length, ap, ◌∙◌, arith}
+-- A step is made by what was prepared, the act and the tick.
+use Rattle.std.proofs.Common.{◌≡◌, ◌<◌, ◌-◌, ℕ, Option, length, ap, sym, ◌∙◌, subst, arith}
 use Rattle.std.proofs.lemmas.List.{length-set}
-use Rattle.private_machine.specs.PrivateMachine.{PrivateMachine}
+use Rattle.private_machine.specs.Vcpu.{space_of, ticking}
+use Rattle.private_machine.specs.PrivateMachine.{PrivateMachine, vcpu, on_vcpu}
+use Rattle.guest_devs.specs.Quiet.{AreQuiet}
+use Rattle.flat_machine.specs.declared.window.FetchPage.{FetchPage}
 use Rattle.flat_machine.specs.FlatView.{machine_of}
-use Rattle.flat_machine.proofs.CountLemmas.{acted-count, joined-count}
+use Rattle.flat_machine.specs.Windows.{IsFetchPage}
+use Rattle.flat_machine.proofs.CountLemmas.{acted-count}
+use Rattle.flat_machine.proofs.WindowLemmas.{quiet-after, fetched-after}
 use Rattle.flat_machine.proofs.machine.Machine.own_step.Goals as goal
 
 pub tick-requires-clause-there : goal.tick-requires-clause-there
 tick-requires-clause-there c =
     let count = λ (m : PrivateMachine). length m.vcpus in
-    let acted = ap count c.act.ensures.acted ∙ acted-count (machine_of c.join.new.self) c.args.vcpu.0 in
-    let joined = ap count c.join.ensures.joined ∙ joined-count (machine_of c.make_ready.new.self) c.args.vcpu.0 in
-    omega (arith, acted ∙ joined ∙ ap count c.in_ok-make_ready.ensures.same, c.requires.there)
+    let acted = ap count c.act-change.ensures.acted ∙ acted-count (machine_of c.prepare-quiet.new.self) c.args.vcpu.0 in
+    omega (arith, acted ∙ c.prepare-quiet.ensures.count ∙ ap count c.in_ok-make_ready.ensures.same, c.requires.there)
 
-pub returns-in_ok-make_ready-clause-count : goal.returns-in_ok-make_ready-clause-count
-returns-in_ok-make_ready-clause-count c =
+pub returns-in-Memory-clause-window : goal.returns-in-Memory-clause-window
+returns-in-Memory-clause-window c =
     let count = λ (m : PrivateMachine). length m.vcpus in
-    let ticked = ap count c.tick.ensures.ticked ∙ length-set c.act.new.self.vcpus.items c.args.vcpu.0 _ in
-    let acted = ap count c.act.ensures.acted ∙ acted-count (machine_of c.join.new.self) c.args.vcpu.0 in
-    let joined = ap count c.join.ensures.joined ∙ joined-count (machine_of c.make_ready.new.self) c.args.vcpu.0 in
-    ticked ∙ acted ∙ joined ∙ ap count c.in_ok-make_ready.ensures.same
+    let v = c.args.vcpu.0 in
+    let m : PrivateMachine = machine_of c.prepare-quiet.new.self in
+    let k : PrivateMachine = machine_of c.act-change.new.self in
+    let before = c.prepare-quiet.ensures.window in
+    let acted = ap count c.act-change.ensures.acted ∙ acted-count m v in
+    let there : v < length k.vcpus = omega (arith, acted ∙ c.prepare-quiet.ensures.count ∙ ap count c.in_ok-make_ready.ensures.same, c.requires.there) in
+    let keeps = c.act-change.ensures.keeps c.in-Memory.is in
+    let quiet = quiet-after c.quiet_steps_pass.ensures c.prepare-quiet.new.window.quiet v m k there keeps before.quiet in
+    let fetched = fetched-after m k v c.act-change.new.fetched there keeps c.act-change.ensures.fetched in
+    record {
+      quiet = subst (λ (n : ℕ). AreQuiet n v (machine_of c.tick.new.self).vcpus (machine_of c.tick.new.self).devices) (sym c.saturating_sub-window.ensures)
+          (subst (λ (x : PrivateMachine). AreQuiet (c.prepare-quiet.new.window.quiet - 1) v x.vcpus x.devices) (sym c.tick.ensures.ticked) quiet);
+      fetched = subst (λ (x : PrivateMachine). IsFetchPage (space_of (vcpu x v)) x.pages c.act-change.new.fetched) (sym c.tick.ensures.ticked) fetched;
+    }
+
+pub returns-in-Machine-clause-count : goal.returns-in-Machine-clause-count
+returns-in-Machine-clause-count c =
+    let count = λ (m : PrivateMachine). length m.vcpus in
+    ap count c.tick.ensures.ticked ∙ length-set c.act-change.new.self.vcpus.items c.args.vcpu.0 _
+    ∙ ap count c.act-change.ensures.acted ∙ acted-count (machine_of c.prepare-quiet.new.self) c.args.vcpu.0
+    ∙ c.prepare-quiet.ensures.count ∙ ap count c.in_ok-make_ready.ensures.same

@@ -4,6 +4,7 @@ use Rattle.isolation_law.specs.Phases.{GoesOn, Runs}
 use Rattle.base_words.specs.declared.events.Event.TheVariants.{Direct}
 use Rattle.guest_course.specs.CourseView.{state_of}
 use Rattle.guest_course.proofs.StepProofs.{Hardware, Made, Noted, note-within, executes, sound-after, step-goes-on, step-runs, traps, sound-stays}
+use Rattle.guest_course.proofs.WindowProofs.{quiet-made, window-made, quiet-trap, window-trap}
 use Rattle.guest_course.proofs.RebackLemmas.{well, is-well}
 use Rattle.guest_course.proofs.course.Course.step_noted.Goals as goal
 
@@ -85,3 +86,33 @@ returns-in-Trap-clause-runs c =
     let hardware : Hardware c.args.self.now c.hardware.new.self = record { same = c.hardware.ensures.same; spares = c.hardware.ensures.spares; devs = c.hardware.ensures.devs; agree = c.hardware.ensures.agree } in
     let stays = traps c.args.self.now c.hardware.new.self c.args.processor.0 c.args.vcpu.0 c.in-Trap.cause c.requires.sound c.requires.may hardware c.in-Trap.ensures.executes in
     subst (λ s. Runs s c.args.processor.0 c.args.vcpu.0) (sym stays.same) c.requires.may.runs
+
+pub returns-in-Direct-clause-window : goal.returns-in-Direct-clause-window
+returns-in-Direct-clause-window c =
+    let made : Made c.args.self.now c.hardware.new.self c.args.processor.0 c.args.vcpu.0 c.in-Direct.access = record {
+      sound = c.requires.sound;
+      may = c.requires.may;
+      hardware = record { same = c.hardware.ensures.same; spares = c.hardware.ensures.spares; devs = c.hardware.ensures.devs; agree = c.hardware.ensures.agree };
+      executed = c.in-Direct.ensures.executes;
+    } in
+    let noted : Noted c.hardware.new.self c.note.new.self = record { same = c.note.ensures.same; dues = c.note.ensures.dues; counted = c.note.ensures.counted } in
+    window-made c.args.self.now c.hardware.new.self c.note.new.self c.args.processor.0 c.args.vcpu.0 c.in-Direct.access made noted c.hardware.new.window c.hardware.ensures.window
+
+pub returns-in-Direct-clause-quiet : goal.returns-in-Direct-clause-quiet
+returns-in-Direct-clause-quiet c n quiet =
+    let made : Made c.args.self.now c.hardware.new.self c.args.processor.0 c.args.vcpu.0 c.in-Direct.access = record {
+      sound = c.requires.sound;
+      may = c.requires.may;
+      hardware = record { same = c.hardware.ensures.same; spares = c.hardware.ensures.spares; devs = c.hardware.ensures.devs; agree = c.hardware.ensures.agree };
+      executed = c.in-Direct.ensures.executes;
+    } in
+    let noted : Noted c.hardware.new.self c.note.new.self = record { same = c.note.ensures.same; dues = c.note.ensures.dues; counted = c.note.ensures.counted } in
+    quiet-made c.quiet_steps_pass.ensures c.args.self.now c.hardware.new.self c.note.new.self c.args.processor.0 c.args.vcpu.0 c.in-Direct.access made noted n quiet
+
+pub returns-in-Trap-clause-window : goal.returns-in-Trap-clause-window
+returns-in-Trap-clause-window c =
+    let hardware : Hardware c.args.self.now c.hardware.new.self = record { same = c.hardware.ensures.same; spares = c.hardware.ensures.spares; devs = c.hardware.ensures.devs; agree = c.hardware.ensures.agree } in
+    window-trap c.args.self.now c.hardware.new.self c.args.processor.0 c.args.vcpu.0 c.in-Trap.cause hardware c.in-Trap.ensures.executes c.hardware.new.window c.hardware.ensures.window
+
+pub returns-in-Trap-clause-quiet : goal.returns-in-Trap-clause-quiet
+returns-in-Trap-clause-quiet c n quiet = quiet-trap c.args.self.now c.hardware.new.self c.args.processor.0 c.args.vcpu.0 c.in-Trap.cause c.in-Trap.ensures.executes n quiet

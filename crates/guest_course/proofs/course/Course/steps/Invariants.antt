@@ -3,6 +3,8 @@ use Rattle.guest_course.specs.CourseView.{state_of}
 use Rattle.guest_course.specs.CourseRules.{IsSound}
 use Rattle.guest_course.specs.Packets.{SamePackets}
 use Rattle.guest_course.specs.StepCalls.{MayStep, StepsMany}
+use Rattle.guest_devs.specs.Quiet.{AreQuiet}
+use Rattle.guest_course.specs.Windows.{IsWindowOn}
 use Rattle.guest_course.proofs.course.Course.steps.Given as goal
 
 abbrev pub invariant-loop-made : goal.invariant-loop-made
@@ -10,6 +12,8 @@ invariant-loop-made l = record {
   sound : IsSound l.self;
   may : MayStep (state_of l.self) l.processor.0 l.vcpu.0;
   steps : StepsMany l.made (state_of l.fn.self) l.processor.0 l.vcpu.0 (state_of l.self);
+  quiet : AreQuiet l.quiet l.vcpu.0 l.self.vcpus.items l.self.devs.state.page;
+  window : IsWindowOn l.self l.processor.0 l.vcpu.0 l.window;
   fewer : l.made < l.most;
   print_room : l.self.devs.print_room ≡ l.fn.self.devs.print_room;
   send_room : l.self.devs.send_room ≡ l.fn.self.devs.send_room;

@@ -1,0 +1,40 @@
+-- What a run of steps of one virtual processor goes by.
+use Rattle.std.specs.Prelude.{◌≡◌, ℕ, ◌+◌, ◌*◌, ◌/◌, ◌%◌, ◌<◌, ◌≤◌, Option, Some, None, Ok, replicate}
+use Rattle.base_words.specs.declared.ids.VcpuId.{VcpuId}
+use Rattle.base_words.specs.declared.events.OwnEvent.TheVariants.{Step}
+use Rattle.private_machine.specs.PrivateRun.{private_run}
+use Rattle.base_words.specs.declared.exception.Use.TheVariants.{Fetch}
+use Rattle.base_words.specs.declared.place.Place.TheVariants.{Memory}
+use Rattle.base_words.specs.Place.{AddressSpace, place}
+use Rattle.private_machine.specs.Vcpu.{space_of}
+use Rattle.private_machine.specs.PrivateMachine.{PrivateMachine, vcpu}
+use Rattle.guest_devs.specs.Quiet.{AreQuiet}
+use Rattle.flat_machine.specs.declared.window.FetchPage.{FetchPage}
+use Rattle.flat_machine.specs.declared.window.Window.{Window}
+
+-- a page of memory from which all fetches from a virtual page come
+pub record IsPageOf (space : AddressSpace) (pages : ℕ) (page : FetchPage) : Type 0 where
+  pub aligned : page.start % 4096 ≡ 0
+  pub whole : page.start + 4096 ≤ 4096 * pages
+  pub leads : (pc : ℕ) → pc / 4096 ≡ page.number → pc % 4 ≡ 0 → place space pages 4 Fetch pc ≡ Ok (Memory (page.start + pc % 4096))
+
+abbrev pub IsFetchPage : AddressSpace → ℕ → Option FetchPage → Type 0
+IsFetchPage space pages None = Unit {0}
+IsFetchPage space pages (Some page) = IsPageOf space pages page
+
+-- nothing comes before so many steps, and the page is that of its fetches
+pub record IsWindow (m : PrivateMachine) (v : ℕ) (w : Window) : Type 0 where
+  pub quiet : AreQuiet w.quiet v m.vcpus m.devices
+  pub fetched : IsFetchPage (space_of (vcpu m v)) m.pages w.fetched
+
+-- an instruction left coprocessor 0, the TLB, the count of the steps and the devices as they were
+pub record Keeps (m : PrivateMachine) (v : ℕ) (n : PrivateMachine) : Type 0 where
+  pub cp0 : (vcpu n v).cp0 ≡ (vcpu m v).cp0
+  pub tlb : (vcpu n v).tlb ≡ (vcpu m v).tlb
+  pub steps : (vcpu n v).steps ≡ (vcpu m v).steps
+  pub devices : n.devices ≡ m.devices
+  pub pages : n.pages ≡ m.pages
+
+-- fewer steps than these were made
+abbrev pub MadeSome : PrivateMachine → VcpuId → ℕ → PrivateMachine → Type 0
+MadeSome m v steps n = (made : ℕ) × (made < steps) × (n ≡ private_run m (replicate made (Step v)))

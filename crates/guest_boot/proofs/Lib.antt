@@ -1,0 +1,4 @@
+pub mod ListLemmas
+pub mod LotLemmas
+pub mod CacheLemmas
+pub mod BootLemmas

@@ -1,0 +1,5 @@
+//! Tests of whole runs of guests, and of what they leave.
+#![tactic(auto)]
+
+#[cfg(test)]
+mod frames;
