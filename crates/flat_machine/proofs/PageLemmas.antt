@@ -1,14 +1,12 @@
 -- Fetches from one virtual page come from one page of memory.
-use Rattle.std.proofs.Common.{◌≡◌, ℕ, ◌<◌, ◌≤◌, ◌+◌, ◌-◌, ◌*◌, ◌/◌, ◌%◌, ◌==◌, if◌then◌else◌, nat_lt, Bool, true, false, List, find, Option, Some, None, Result, Ok, Err, refl, sym, ap, ◌∙◌, subst, eq-eqb, mod-lt, arith}
+use Rattle.std.proofs.Common.{◌≡◌, ℕ, ◌<◌, ◌≤◌, ◌+◌, ◌-◌, ◌*◌, ◌/◌, ◌%◌, ◌==◌, if◌then◌else◌, nat_lt, Bool, true, false, List, find, Option, Some, None, Ok, Err, refl, sym, ap, ◌∙◌, subst, eq-eqb, mod-lt, arith}
 use Rattle.base_words.specs.declared.exception.Use.TheVariants.{Fetch}
-use Rattle.base_words.specs.declared.exception.Exception.{Exception}
 use Rattle.base_words.specs.declared.exception.Exception.TheVariants.{BusError, AddressError}
-use Rattle.base_words.specs.declared.place.Place.{Place}
 use Rattle.base_words.specs.declared.place.Place.TheVariants.{Memory, Device}
 use Rattle.base_words.specs.declared.tlb.Entry.{Entry}
 use Rattle.base_words.specs.declared.tlb.TlbAnswer.{TlbAnswer}
 use Rattle.base_words.specs.declared.tlb.TlbAnswer.TheVariants.{Hit, Miss, Invalid, ReadOnly}
-use Rattle.base_words.specs.Tlb.{page_pair, is_odd, matches, permitted, answer, looked_up}
+use Rattle.base_words.specs.Tlb.{page_pair, matches, permitted, answer, looked_up}
 use Rattle.base_words.specs.Place.{Segment, Mapped, Direct, Outside, segment, physical, AddressSpace, through_tlb, translated, place}
 use Rattle.flat_machine.specs.Windows.{IsPageOf}
 

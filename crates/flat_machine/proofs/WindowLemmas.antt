@@ -10,15 +10,13 @@ use Rattle.private_machine.specs.declared.vcpu.Vcpu.{Vcpu}
 use Rattle.private_machine.specs.Vcpu.{no_vcpu, space_of, with_line_on, ticking}
 use Rattle.private_machine.specs.Signals.{changed}
 use Rattle.private_machine.specs.DevicePage.{DevicePage}
-use Rattle.private_machine.specs.DeviceRegisters.{with_arrived}
 use Rattle.private_machine.specs.PrivateMachine.{PrivateMachine, vcpu, on_vcpu, left, input_waits, with_devices, with_input_line}
 use Rattle.private_machine.specs.OwnStep.{joined, input_joined}
 use Rattle.private_machine.specs.PrivateRun.{own_event, private_run}
 use Rattle.base_words.specs.declared.events.OwnEvent.{OwnEvent}
 use Rattle.guest_devs.specs.Arrivals.{NoneJoins}
-use Rattle.guest_devs.specs.Quiet.{InputRests, AreQuiet}
+use Rattle.guest_devs.specs.Quiet.{AreQuiet}
 use Rattle.flat_machine.specs.declared.window.FetchPage.{FetchPage}
-use Rattle.flat_machine.specs.declared.window.Window.{Window}
 use Rattle.flat_machine.specs.Windows.{IsFetchPage, IsWindow, Keeps}
 
 -- ---- before a quiet step

@@ -262,6 +262,7 @@ impl Machine {
     }
 
     /// So many steps of a virtual processor. Where memory is wanting, some of them were made.
+    #[inline(never)]
     pub fn run(&mut self, vcpu: VcpuId, steps: u64) -> Result<(), AllocError>
         requires sound { IsSound self.old }
         requires there { vcpu.0 < length (machine_of self.old).vcpus }

@@ -1,5 +1,7 @@
 //! Steps that a processor makes by itself, one after the other.
-ghost use Rattle.std.specs.Prelude.{◌≡◌, ◌≤◌, ◌<◌};
+ghost use Rattle.std.specs.Prelude.{◌≡◌, ◌≤◌, ◌<◌, length, None, is_some};
+ghost use Rattle.base_words.specs.declared.trap.DataAccess.TheVariants.{NoData};
+ghost use Rattle.isolation_law.specs.GuestState.{due_on};
 ghost use Rattle.isolation_law.specs.Phases.{GoesOn, Runs};
 ghost use Rattle.guest_course.specs.CourseView.{state_of};
 ghost use Rattle.guest_course.specs.CourseRules.{IsSound};
@@ -8,7 +10,7 @@ ghost use Rattle.guest_course.specs.Packets.{SamePackets};
 
 use crate::course::Course;
 use crate::window::Window;
-use base_words::{HwStep, ProcId, VcpuId};
+use base_words::{DataAccess, HwStep, ProcId, VcpuId};
 use guest_devs::quiet_steps;
 
 /// How many steps a processor made by itself, and how the last one came out: the last of these, or the one behind them, which trapped.
@@ -39,24 +41,41 @@ impl Course {
         ensures skips { self.new.skips ≡ self.old.skips }
         ensures packets { SamePackets self.old self.new }
     {
+        let is_due = self.due[processor.0 as usize].is_some();
+        let limit = if is_due { 1 } else { most };
         let mut made = 0;
         let mut quiet = 0;
         let mut window = Window::new(&self.vcpus[vcpu.0 as usize]);
-        while made < most {
+        while made < limit {
             if quiet == 0 {
                 quiet = quiet_steps(&self.vcpus, &self.devs, vcpu);
             }
             let last = self.step_noted(processor, vcpu, quiet > 0, &mut window);
             quiet = quiet.saturating_sub(1);
-            if let HwStep::Trap(_) = last {
+            let HwStep::Direct(access) = last else {
                 return Steps { made, last };
-            }
+            };
             made += 1;
-            if made == most || self.due[processor.0 as usize].is_some() {
+            if made == limit || self.is_chosen(processor, access.data) {
                 return Steps { made, last };
             }
         }
         unreachable!()
+    }
+
+    /// Whether a choice of the policy is due on a processor after a step with this data access, before which none was.
+    #[inline(always)]
+    fn is_chosen(&self, processor: ProcId, access: DataAccess) -> bool
+        requires there { processor.0 < length self.now.due.items }
+        requires none { access ≡ NoData → due_on (state_of self.now) processor.0 ≡ None }
+        ensures { result ≡ is_some (due_on (state_of self.now) processor.0) }
+    {
+        match access {
+            DataAccess::NoData => false,
+            DataAccess::Load { .. } | DataAccess::Store { .. } => {
+                self.due[processor.0 as usize].is_some()
+            }
+        }
     }
 
     /// One step of the virtual processor that is loaded on a processor, through the processor's TLB. A trap changes nothing.

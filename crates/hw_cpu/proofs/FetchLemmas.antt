@@ -1,7 +1,6 @@
 -- Fetches from one virtual page.
 use Rattle.std.proofs.Common.{◌≡◌, ℕ, ◌/◌, ◌%◌, ◌==◌, if◌then◌else◌, Bool, true, false, not, ◌&&◌, nat_lt, Option, Some, None, Result, Ok, Err, refl, sym, ap, ◌∙◌, subst, eq-eqb, arith}
 use Rattle.std.specs.Prelude.{find}
-use Rattle.base_words.specs.declared.exception.Use.TheVariants.{Fetch}
 use Rattle.base_words.specs.Halves.{Half, is_of}
 use Rattle.base_words.specs.Place.{Segment, Mapped, Direct, Outside, segment, is_store}
 use Rattle.private_machine.specs.Backing.{Held}

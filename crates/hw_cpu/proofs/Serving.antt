@@ -1,8 +1,6 @@
 -- What the condition on all halves says of the one that matches.
-use Rattle.std.proofs.Common.{◌≡◌, ℕ, ◌/◌, Bool, true, false, not, ◌&&◌, if◌then◌else◌, List, [], ◌∷◌, Option, Some, None, sym, refl}
+use Rattle.std.proofs.Common.{◌≡◌, ℕ, ◌/◌, Bool, true, false, not, ◌&&◌, if◌then◌else◌, List, [], ◌∷◌, Option, Some, None, refl}
 use Rattle.std.specs.Prelude.{find}
-use Rattle.base_words.specs.declared.ids.FrameNo.{FrameNo}
-use Rattle.base_words.specs.declared.ids.Ppn.{Ppn}
 use Rattle.base_words.specs.Halves.{Half, is_of}
 use Rattle.hw_tlb.specs.declared.answer.HwAnswer.{HwAnswer}
 use Rattle.hw_tlb.specs.declared.answer.HwAnswer.TheVariants.{Hit, Miss, ReadOnly}

@@ -1,11 +1,9 @@
 -- What a step of the code is, by the definition of the hardware's step.
 use Rattle.std.specs.Prelude.{◌≡◌, ℕ, Bool, true, false, List, Result, Ok, Err}
 use Rattle.base_words.specs.declared.regs.Regs.{Regs}
-use Rattle.base_words.specs.declared.ids.FrameNo.{FrameNo}
 use Rattle.base_words.specs.declared.trap.HwStep.{HwStep}
 use Rattle.base_words.specs.declared.trap.HwStep.TheVariants as steps
 use Rattle.base_words.specs.declared.trap.TrapCause.{TrapCause}
-use Rattle.base_words.specs.declared.effect.Request.{Request}
 use Rattle.base_words.specs.declared.exception.Use.{Use}
 use Rattle.base_words.specs.Place.{Segment, Mapped, Direct, Outside}
 use Rattle.base_words.specs.Halves.{Half}
@@ -40,9 +38,16 @@ want_of lacks.Half = NoHalf
 want_of (lacks.Dead at) = DeadFrame (place_of at)
 want_of lacks.Store = NoStore
 
-abbrev pub found_of : Result Reached Lack → Result Place Want
-found_of (Ok at) = Ok (place_of at)
-found_of (Err lack) = Err (want_of lack)
+-- no frame is reached
+abbrev pub ReachesNone : Result Place Want → Type 0
+ReachesNone (Ok at) = ⊥
+ReachesNone (Err why) = Unit {0}
+
+-- no frame is reached, and that is why a step traps
+pub record Causes (trap : Want → TrapCause) (found : Result Place Want) (cause : TrapCause) : Type 0 where
+  pub why : Want
+  pub is : found ≡ Err why
+  pub told : cause ≡ trap why
 
 -- a step leaves what the definition says; a trap changes nothing
 abbrev pub Does : Result Outcome TrapCause → Regs → Regs → Held → Held → HwStep → Type 0

@@ -1,12 +1,11 @@
 //! What an access reaches through the TLB.
-ghost use Rattle.std.specs.Prelude.{◌≡◌, ◌<◌, ◌/◌, ◌%◌, true, false, IfOk, find as find_of};
+ghost use Rattle.std.specs.Prelude.{◌≡◌, ◌<◌, ◌/◌, ◌%◌, true, false, Ok, Err, IfSome, None, find as find_of};
 ghost use Rattle.base_words.specs.Halves.{is_of};
 ghost use Rattle.base_words.specs.Place.{is_store as is_store_of, segment};
 ghost use Rattle.hw_tlb.specs.Tlb.{halves};
 ghost use Rattle.private_machine.specs.Serving.{Backs, BacksAlone, AllServe};
-ghost use Rattle.private_machine.specs.Reaching.{reached, through_half};
-ghost use Rattle.private_machine.specs.Reaching.{fetch_at};
-ghost use Rattle.hw_cpu.specs.Steps.{sight_of, wanted_at, found_of, is_within};
+ghost use Rattle.private_machine.specs.Reaching.{Sight, reached, through_half, fetch_at};
+ghost use Rattle.hw_cpu.specs.Steps.{sight_of, place_of, want_of, wanted_at, ReachesNone, is_within};
 ghost use Rattle.hw_cpu.specs.FetchPages.{IsFetchPage};
 
 use crate::Bus;
@@ -69,40 +68,48 @@ fn is_store(purpose: Use) -> bool
     }
 }
 
-/// By the half that matches. A frame that is dead counts before a half that isn't writable.
+/// By the half that matches.
 #[inline(always)]
-fn find<B: Bus>(
-    mode: Mode,
-    tlb: &HwTlb,
-    bus: &B,
-    purpose: Use,
-    address: u32,
-) -> Result<Reached, Lack>
+fn find<B: Bus>(mode: Mode, tlb: &HwTlb, bus: &B, purpose: Use, address: u32) -> Option<Reached>
     requires { AllServe (B.held bus.now) (halves tlb.now) }
-    ensures found { found_of result ≡ through_half (sight_of mode.user mode.asid false (halves tlb.now) (B.site bus.now)) (wanted_at purpose 1 address) (find_of (is_of (address / 4096) mode.asid) (halves tlb.now)) }
-    ensures backed { IfOk result (λ at. Backs (B.held bus.now) at.page.0 at.frame.0) }
-    ensures alone { IfOk result (λ at. is_store_of purpose ≡ true → BacksAlone (B.held bus.now) at.page.0 at.frame.0) }
+    ensures found { IfSome result (λ at. through_half (sight_of mode.user mode.asid false (halves tlb.now) (B.site bus.now)) (wanted_at purpose 1 address) (find_of (is_of (address / 4096) mode.asid) (halves tlb.now)) ≡ Ok (place_of at)) }
+    ensures none { result ≡ None → ReachesNone (through_half (sight_of mode.user mode.asid false (halves tlb.now) (B.site bus.now)) (wanted_at purpose 1 address) (find_of (is_of (address / 4096) mode.asid) (halves tlb.now))) }
+    ensures backed { IfSome result (λ at. Backs (B.held bus.now) at.page.0 at.frame.0) }
+    ensures alone { IfSome result (λ at. is_store_of purpose ≡ true → BacksAlone (B.held bus.now) at.page.0 at.frame.0) }
 {
     match tlb.lookup(address, mode.asid, is_store(purpose)) {
         HwAnswer::Hit(frame, page) => {
             if bus.is_dead(frame) {
-                Err(Lack::Dead(Reached { page, frame }))
+                None
             } else {
-                Ok(Reached { page, frame })
+                Some(Reached { page, frame })
             }
         }
-        HwAnswer::Miss => Err(Lack::Half),
+        HwAnswer::Miss | HwAnswer::ReadOnly(..) => None,
+    }
+}
+
+/// Why no frame is reached by the half that matches. A frame that is dead counts before a half that isn't writable.
+#[inline(always)]
+fn find_denial<B: Bus>(mode: Mode, tlb: &HwTlb, bus: &B, purpose: Use, address: u32) -> Lack
+    requires serves { AllServe (B.held bus.now) (halves tlb.now) }
+    requires none { ReachesNone (through_half (sight_of mode.user mode.asid false (halves tlb.now) (B.site bus.now)) (wanted_at purpose 1 address) (find_of (is_of (address / 4096) mode.asid) (halves tlb.now))) }
+    ensures { through_half (sight_of mode.user mode.asid false (halves tlb.now) (B.site bus.now)) (wanted_at purpose 1 address) (find_of (is_of (address / 4096) mode.asid) (halves tlb.now)) ≡ Err (want_of result) }
+{
+    match tlb.lookup(address, mode.asid, is_store(purpose)) {
+        HwAnswer::Hit(frame, page) => Lack::Dead(Reached { page, frame }),
+        HwAnswer::Miss => Lack::Half,
         HwAnswer::ReadOnly(frame, page) => {
             if bus.is_dead(frame) {
-                Err(Lack::Dead(Reached { page, frame }))
+                Lack::Dead(Reached { page, frame })
             } else {
-                Err(Lack::Store)
+                Lack::Store
             }
         }
     }
 }
 
-/// The page and the frame that an access reaches, whose address has to be a multiple of `unit`; or why it reaches none.
+/// The page and the frame that an access reaches, whose address has to be a multiple of `unit`, if it reaches one.
 #[inline(always)]
 pub fn reach<B: Bus>(
     mode: Mode,
@@ -111,21 +118,43 @@ pub fn reach<B: Bus>(
     purpose: Use,
     unit: u32,
     address: u32,
-) -> Result<Reached, Lack>
+) -> Option<Reached>
     requires serves { AllServe (B.held bus.now) (halves tlb.now) }
     requires some { 0 < unit }
-    ensures found { found_of result ≡ reached (sight_of mode.user mode.asid false (halves tlb.now) (B.site bus.now)) (wanted_at purpose unit address) }
-    ensures aligned { IfOk result (λ _. address % unit ≡ 0) }
-    ensures backed { IfOk result (λ at. Backs (B.held bus.now) at.page.0 at.frame.0) }
-    ensures alone { IfOk result (λ at. is_store_of purpose ≡ true → BacksAlone (B.held bus.now) at.page.0 at.frame.0) }
+    ensures found { IfSome result (λ at. reached (sight_of mode.user mode.asid false (halves tlb.now) (B.site bus.now)) (wanted_at purpose unit address) ≡ Ok (place_of at)) }
+    ensures none { result ≡ None → ReachesNone (reached (sight_of mode.user mode.asid false (halves tlb.now) (B.site bus.now)) (wanted_at purpose unit address)) }
+    ensures aligned { IfSome result (λ _. address % unit ≡ 0) }
+    ensures backed { IfSome result (λ at. Backs (B.held bus.now) at.page.0 at.frame.0) }
+    ensures alone { IfSome result (λ at. is_store_of purpose ≡ true → BacksAlone (B.held bus.now) at.page.0 at.frame.0) }
 {
     if address % unit != 0 || !is_in_range(mode.user, address) {
-        return Err(Lack::Range);
+        return None;
     }
     find(mode, tlb, bus, purpose, address)
 }
 
-/// The same of a fetch. What it reached last is asked first.
+/// Why an access reaches no frame.
+#[inline(always)]
+pub fn denial<B: Bus>(
+    mode: Mode,
+    tlb: &HwTlb,
+    bus: &B,
+    purpose: Use,
+    unit: u32,
+    address: u32,
+) -> Lack
+    requires serves { AllServe (B.held bus.now) (halves tlb.now) }
+    requires some { 0 < unit }
+    requires none { ReachesNone (reached (sight_of mode.user mode.asid false (halves tlb.now) (B.site bus.now)) (wanted_at purpose unit address)) }
+    ensures { reached (sight_of mode.user mode.asid false (halves tlb.now) (B.site bus.now)) (wanted_at purpose unit address) ≡ Err (want_of result) }
+{
+    if address % unit != 0 || !is_in_range(mode.user, address) {
+        return Lack::Range;
+    }
+    find_denial(mode, tlb, bus, purpose, address)
+}
+
+/// What a fetch reaches through the TLB, if anything; all fetches of its page reach it.
 #[inline(always)]
 pub fn fetch<B: Bus>(
     mode: Mode,
@@ -133,23 +162,24 @@ pub fn fetch<B: Bus>(
     bus: &B,
     last: &mut Option<FetchPage>,
     pc: u32,
-) -> Result<Reached, Lack>
+) -> Option<Reached>
     requires serves { AllServe (B.held bus.now) (halves tlb.now) }
     requires last { IsFetchPage (sight_of mode.user mode.asid false (halves tlb.now) (B.site bus.now)) last.old }
-    ensures found { found_of result ≡ reached (sight_of mode.user mode.asid false (halves tlb.now) (B.site bus.now)) (fetch_at pc) }
-    ensures backed { IfOk result (λ at. Backs (B.held bus.now) at.page.0 at.frame.0) }
+    ensures found { IfSome result (λ at. reached (sight_of mode.user mode.asid false (halves tlb.now) (B.site bus.now)) (fetch_at pc) ≡ Ok (place_of at)) }
+    ensures none { result ≡ None → ReachesNone (reached (sight_of mode.user mode.asid false (halves tlb.now) (B.site bus.now)) (fetch_at pc)) }
+    ensures backed { IfSome result (λ at. Backs (B.held bus.now) at.page.0 at.frame.0) }
     ensures last { IsFetchPage (sight_of mode.user mode.asid false (halves tlb.now) (B.site bus.now)) last.new }
 {
     if let Some(page) = *last
         && page.number == pc / PAGE
         && pc % 4 == 0
     {
-        return Ok(page.at);
+        return Some(page.at);
     }
     let at = reach(mode, tlb, bus, Use::Fetch, 4, pc)?;
     *last = Some(FetchPage {
         number: pc / PAGE,
         at,
     });
-    Ok(at)
+    Some(at)
 }

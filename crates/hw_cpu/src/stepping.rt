@@ -1,19 +1,19 @@
-//! One step of a processor.
-ghost use Rattle.std.specs.Prelude.{◌≡◌, false, if◌then◌else◌};
+//! One step of a processor. All of it is inlined: a bus that a call takes by its address stands in memory, and is put there in each step.
+ghost use Rattle.std.specs.Prelude.{◌≡◌, ◌<◌, false, if◌then◌else◌};
 ghost use Rattle.base_words.specs.declared.trap.HwStep.TheVariants.{Direct};
 ghost use Rattle.mips_alu.specs.Execution.{passed};
 ghost use Rattle.hw_tlb.specs.Tlb.{halves};
-ghost use Rattle.private_machine.specs.Reaching.{Wanted, wanted};
+ghost use Rattle.private_machine.specs.Reaching.{Lack as Want, wanted, reached, fetch_at};
 ghost use Rattle.private_machine.specs.OwnStep.{is_privileged as is_privileged_of};
 ghost use Rattle.private_machine.specs.HardwareStep.{accesses, decodes, fetch_trap, data_trap, cause_of};
 ghost use Rattle.private_machine.specs.DirectAccess.{outcome_of, hardware_outcome, store_told, load_told};
 ghost use Rattle.private_machine.specs.Serving.{AllServe};
-ghost use Rattle.hw_cpu.specs.Steps.{sight_of, place_of, want_of, Does};
+ghost use Rattle.hw_cpu.specs.Steps.{sight_of, place_of, wanted_at, ReachesNone, Causes, Does};
 ghost use Rattle.hw_cpu.specs.FetchPages.{IsFetchPage};
 
 use crate::Bus;
 use crate::accesses::{load, load_linked, store, store_conditional, word_at};
-use crate::reaching::{FetchPage, Lack, Mode, Reached, fetch, reach};
+use crate::reaching::{FetchPage, Lack, Mode, Reached, denial, fetch, reach};
 use base_words::{Access, Cp0Op, DataAccess, HwStep, Regs, Request, TrapCause, Use};
 use hw_tlb::HwTlb;
 use mips_alu::{advance, execute, load_unit, store_unit};
@@ -31,11 +31,13 @@ fn is_privileged(word: u32) -> bool
 }
 
 /// Why a fetch traps.
-#[cold]
-fn fetch_cause(lack: Lack) -> TrapCause
-    ensures { (w : Wanted) → result ≡ cause_of (fetch_trap w (want_of lack)) }
+#[inline(always)]
+fn fetch_cause<B: Bus>(mode: Mode, tlb: &HwTlb, bus: &B, pc: u32) -> TrapCause
+    requires serves { AllServe (B.held bus.now) (halves tlb.now) }
+    requires none { ReachesNone (reached (sight_of mode.user mode.asid false (halves tlb.now) (B.site bus.now)) (fetch_at pc)) }
+    ensures { Causes (λ (why : Want). cause_of (fetch_trap (fetch_at pc) why)) (reached (sight_of mode.user mode.asid false (halves tlb.now) (B.site bus.now)) (fetch_at pc)) result }
 {
-    match lack {
+    match denial(mode, tlb, bus, Use::Fetch, 4, pc) {
         Lack::Range => TrapCause::Address(None),
         Lack::Half | Lack::Store => TrapCause::FetchMiss,
         Lack::Dead(at) => TrapCause::Dead(at.frame),
@@ -43,11 +45,22 @@ fn fetch_cause(lack: Lack) -> TrapCause
 }
 
 /// Why the data access of an instruction's word traps.
-#[cold]
-fn data_cause(word: u32, lack: Lack) -> TrapCause
-    ensures { (w : Wanted) → result ≡ cause_of (data_trap word w (want_of lack)) }
+#[inline(always)]
+fn data_cause<B: Bus>(
+    mode: Mode,
+    tlb: &HwTlb,
+    bus: &B,
+    purpose: Use,
+    unit: u32,
+    address: u32,
+    word: u32,
+) -> TrapCause
+    requires serves { AllServe (B.held bus.now) (halves tlb.now) }
+    requires some { 0 < unit }
+    requires none { ReachesNone (reached (sight_of mode.user mode.asid false (halves tlb.now) (B.site bus.now)) (wanted_at purpose unit address)) }
+    ensures { Causes (λ (why : Want). cause_of (data_trap word (wanted_at purpose unit address) why)) (reached (sight_of mode.user mode.asid false (halves tlb.now) (B.site bus.now)) (wanted_at purpose unit address)) result }
 {
-    match lack {
+    match denial(mode, tlb, bus, purpose, unit, address) {
         Lack::Range => TrapCause::Address(Some(word)),
         Lack::Half => TrapCause::DataMiss(word),
         Lack::Dead(at) => TrapCause::Dead(at.frame),
@@ -89,7 +102,7 @@ fn access<B: Bus>(
             address,
             target,
         } => match reach(mode, tlb, bus, Use::Load, load_unit(kind), address) {
-            Ok(at) => {
+            Some(at) => {
                 load(regs, bus, at, kind, address, target);
                 direct(
                     fetched,
@@ -99,14 +112,22 @@ fn access<B: Bus>(
                     },
                 )
             }
-            Err(lack) => HwStep::Trap(data_cause(word, lack)),
+            None => HwStep::Trap(data_cause(
+                mode,
+                tlb,
+                bus,
+                Use::Load,
+                load_unit(kind),
+                address,
+                word,
+            )),
         },
         Request::Store {
             kind,
             address,
             value,
         } => match reach(mode, tlb, bus, Use::Store, store_unit(kind), address) {
-            Ok(at) => {
+            Some(at) => {
                 store(bus, at, kind, address, value);
                 advance(regs);
                 direct(
@@ -117,11 +138,19 @@ fn access<B: Bus>(
                     },
                 )
             }
-            Err(lack) => HwStep::Trap(data_cause(word, lack)),
+            None => HwStep::Trap(data_cause(
+                mode,
+                tlb,
+                bus,
+                Use::Store,
+                store_unit(kind),
+                address,
+                word,
+            )),
         },
         Request::LoadLinked { address, target } => {
             match reach(mode, tlb, bus, Use::Load, 4, address) {
-                Ok(at) => {
+                Some(at) => {
                     load_linked(regs, bus, at, address, target);
                     direct(
                         fetched,
@@ -131,7 +160,7 @@ fn access<B: Bus>(
                         },
                     )
                 }
-                Err(lack) => HwStep::Trap(data_cause(word, lack)),
+                None => HwStep::Trap(data_cause(mode, tlb, bus, Use::Load, 4, address, word)),
             }
         }
         Request::StoreConditional {
@@ -139,11 +168,11 @@ fn access<B: Bus>(
             value,
             target,
         } => match reach(mode, tlb, bus, Use::Store, 4, address) {
-            Ok(at) => {
+            Some(at) => {
                 let made = store_conditional(regs, bus, at, address, value, target);
                 direct(fetched, conditional(made, at))
             }
-            Err(lack) => HwStep::Trap(data_cause(word, lack)),
+            None => HwStep::Trap(data_cause(mode, tlb, bus, Use::Store, 4, address, word)),
         },
         Request::ReadCp0 { .. } | Request::WriteCp0 { .. } => {
             advance(regs);
@@ -219,10 +248,10 @@ pub fn step<B: Bus>(
     }
     let mode = Mode { user, asid };
     match fetch(mode, tlb, bus, last, regs.pc) {
-        Ok(at) => {
+        Some(at) => {
             let word = word_at(bus, at, regs.pc);
             decide(regs, mode, tlb, bus, at, word)
         }
-        Err(lack) => HwStep::Trap(fetch_cause(lack)),
+        None => HwStep::Trap(fetch_cause(mode, tlb, bus, regs.pc)),
     }
 }

@@ -62,7 +62,7 @@ impl HwTlb {
     }
 
     /// What the TLB says of an address in an address space, for a store or another use.
-    #[inline]
+    #[inline(always)]
     pub fn lookup(&self, address: u32, asid: u8, store: bool) -> HwAnswer
         ensures answer { result ≡ looked_up (halves self.now) address asid store }
         ensures consistent { IsConsistent self.now }

@@ -178,14 +178,17 @@ fn branch_zero_of(cond: Cond, untaken: Untaken, word: u32) -> Instr
     )
 }
 
-/// The instruction that a word is; `Reserved` exactly for the words outside the table.
+/// The instruction that a word is; `Reserved` exactly for the words outside the table. Most words are of opcode 0, which is asked first.
 #[inline(always)]
 pub fn decode(word: u32) -> Instr
     ensures { result ≡ decoded word }
 {
+    if word >> 26 == 0 {
+        return special_of(special(word & 63), word);
+    }
     let place = primary(word >> 26);
     match place {
-        Primary::Special => special_of(special(word & 63), word),
+        Primary::Special => unreachable!(),
         Primary::RegisterImmediate => register_immediate_of(
             register_immediate(word >> 16 & 31),
             word,

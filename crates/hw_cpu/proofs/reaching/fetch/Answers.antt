@@ -1,5 +1,5 @@
 -- What the page's fetches reach backs it.
-use Rattle.std.proofs.Common.{rules, ◌≡◌, false, Option, sym, subst}
+use Rattle.std.proofs.Common.{false, Option, sym, subst}
 use Rattle.hw_tlb.specs.Tlb.{halves}
 use Rattle.private_machine.specs.Reaching.{Sight, fetch_at}
 use Rattle.hw_cpu.specs.declared.reaching.FetchPage.{FetchPage}

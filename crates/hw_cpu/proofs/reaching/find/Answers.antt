@@ -1,4 +1,4 @@
-use Rattle.std.proofs.Common.{sym, ◌∙◌, subst, ◌≡◌}
+use Rattle.std.proofs.Common.{sym, ◌∙◌, subst}
 use Rattle.hw_tlb.specs.Tlb.{halves}
 use Rattle.hw_tlb.specs.declared.answer.HwAnswer.{HwAnswer}
 use Rattle.hw_cpu.proofs.Serving.{good, Good}
@@ -10,13 +10,6 @@ is_dead-requires g c =
     let store = c.is_store.result in
     let it = subst (λ (a : HwAnswer). Good held store a) (sym c.lookup.ensures.answer ∙ c.in-Hit.is) (good held (halves c.args.tlb.now) c.args.address c.args.mode.asid store c.requires) in
     (c.in-Hit.page.0, it.0)
-
-pub is_dead-requires-in-ReadOnly : goal.is_dead-requires-in-ReadOnly
-is_dead-requires-in-ReadOnly g c =
-    let held = g.B.Bus.held c.args.bus.now in
-    let store = c.is_store.result in
-    let it = subst (λ (a : HwAnswer). Good held store a) (sym c.lookup.ensures.answer ∙ c.in-ReadOnly.is) (good held (halves c.args.tlb.now) c.args.address c.args.mode.asid store c.requires) in
-    (c.in-ReadOnly.page.0, it)
 
 pub returns-else-is_dead-clause-backed : goal.returns-else-is_dead-clause-backed
 returns-else-is_dead-clause-backed g c =

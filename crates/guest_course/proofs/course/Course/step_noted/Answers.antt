@@ -1,8 +1,13 @@
 -- A direct step is its row; a trap leaves the guest as it was.
-use Rattle.std.proofs.Common.{sym, ap, ◌∙◌, subst}
+use Rattle.std.proofs.Common.{◌≡◌, ◌≢◌, Option, None, map, get_or, sym, ap, ◌∙◌, subst}
+use Rattle.std.specs.Global.{Vec}
+use Rattle.base_words.specs.declared.trap.Access.{Access}
 use Rattle.isolation_law.specs.Phases.{GoesOn, Runs}
 use Rattle.base_words.specs.declared.events.Event.TheVariants.{Direct}
-use Rattle.guest_course.specs.CourseView.{state_of}
+use Rattle.isolation_law.specs.GuestState.{GuestState, due_on}
+use Rattle.guest_course.specs.declared.place.Wish.{Wish}
+use Rattle.guest_course.specs.CourseView.{due_of, state_of}
+use Rattle.guest_course.proofs.DueLemmas.{data-kept}
 use Rattle.guest_course.proofs.StepProofs.{Hardware, Made, Noted, note-within, executes, sound-after, step-goes-on, step-runs, traps, sound-stays}
 use Rattle.guest_course.proofs.WindowProofs.{quiet-made, window-made, quiet-trap, window-trap}
 use Rattle.guest_course.proofs.RebackLemmas.{well, is-well}
@@ -116,3 +121,12 @@ returns-in-Trap-clause-window c =
 
 pub returns-in-Trap-clause-quiet : goal.returns-in-Trap-clause-quiet
 returns-in-Trap-clause-quiet c n quiet = quiet-trap c.args.self.now c.hardware.new.self c.args.processor.0 c.args.vcpu.0 c.in-Trap.cause c.in-Trap.ensures.executes n quiet
+
+pub returns-in-Direct-clause-none : goal.returns-in-Direct-clause-none
+returns-in-Direct-clause-none c access is none = c.note.ensures.none (let same : c.in-Direct.access ≡ access = cc in ap (λ (x : Access). x.«data») same ∙ none) ∙ ap (λ x. x.due) c.hardware.ensures.same
+
+pub returns-in-Direct-clause-chosen : goal.returns-in-Direct-clause-chosen
+returns-in-Direct-clause-chosen c had =
+    let p = c.args.processor.0 in
+    subst (λ (t : GuestState). due_on t p ≢ None) (sym c.note.ensures.state)
+    (data-kept (state_of c.hardware.new.self) p c.in-Direct.access.«data» (subst (λ (x : Vec (Option Wish)). get_or (map due_of x.items) p None ≢ None) (sym (ap (λ x. x.due) c.hardware.ensures.same)) had))

@@ -1,4 +1,5 @@
-use Rattle.std.proofs.Common.{◌-◌, ◌≡◌, ◌<◌}
+use Rattle.std.proofs.Common.{◌-◌, ◌≡◌, ◌≢◌, ◌<◌, ◌≤◌, ◌⊎◌, None}
+use Rattle.isolation_law.specs.GuestState.{due_on}
 use Rattle.guest_course.specs.CourseView.{state_of}
 use Rattle.guest_course.specs.CourseRules.{IsSound}
 use Rattle.guest_course.specs.Packets.{SamePackets}
@@ -14,7 +15,9 @@ invariant-loop-made l = record {
   steps : StepsMany l.made (state_of l.fn.self) l.processor.0 l.vcpu.0 (state_of l.self);
   quiet : AreQuiet l.quiet l.vcpu.0 l.self.vcpus.items l.self.devs.state.page;
   window : IsWindowOn l.self l.processor.0 l.vcpu.0 l.window;
-  fewer : l.made < l.most;
+  fewer : l.made < l.limit;
+  limited : l.limit ≤ l.most;
+  limit : ((l.limit ≡ l.most) × (due_on (state_of l.self) l.processor.0 ≡ None)) ⊎ ((l.limit ≡ 1) × (due_on (state_of l.self) l.processor.0 ≢ None));
   print_room : l.self.devs.print_room ≡ l.fn.self.devs.print_room;
   send_room : l.self.devs.send_room ≡ l.fn.self.devs.send_room;
   room : l.self.pmap.room ≡ l.fn.self.pmap.room;
@@ -24,4 +27,4 @@ invariant-loop-made l = record {
 }
 
 abbrev pub decreases-loop-made : goal.decreases-loop-made
-decreases-loop-made l = l.most - l.made
+decreases-loop-made l = l.limit - l.made
