@@ -14,6 +14,7 @@ ghost use Rattle.shootdown.specs.declared.notes.Note.{Note};
 ghost use Rattle.guest_lock.specs.Fates.{IsToldFailing};
 
 use crate::kept::Kept;
+use crate::wanted::{LOOKS, TRIES, Wanted, pause, rest};
 use crate::{BURST_TURNS, Burst, Starts};
 use base_words::{CellId, MoveKind, NodeId, Ppn, VcpuId};
 use guest_core::{Asked, Fate, Guest, Loaded, Ready, Resources, Turn};
@@ -21,13 +22,14 @@ use outside_io::{Gate, GatePoint};
 use shootdown::ProcToken;
 use std::alloc::{AllocError, Global};
 use std::marker::PhantomData;
-use std::sync::{Condvar, Mutex, Wait};
+use std::sync::{Condvar, Mutex, MutexGuard, Wait};
 
 /// Guest number `G` of the run that `N` names, under its lock.
 #[derive(Drop)]
 pub struct GuestCell<N: Starts, const G: u8> {
     guest: Mutex<Kept<N, G>>,
     moved: Condvar,
+    wanted: Wanted,
 }
 
 impl<N: Starts, const G: u8> GuestCell<N, G> {
@@ -42,7 +44,27 @@ impl<N: Starts, const G: u8> GuestCell<N, G> {
                 of: PhantomData,
             }),
             moved: Condvar::new(),
+            wanted: Wanted::new(),
         }
+    }
+
+    /// Takes the lock. It is tried for a while first, since who holds it lets it go soon.
+    fn lock<R: Wait>(&self, rt: &R) -> MutexGuard<'_, Kept<N, G>> {
+        for _ in 0..TRIES {
+            if let Some(kept) = self.guest.try_lock() {
+                return kept;
+            }
+            pause();
+        }
+        self.guest.lock(rt)
+    }
+
+    /// Takes the lock for a moment. A processor that makes turns leaves it to those who want it so.
+    fn lock_soon<R: Wait>(&self, rt: &R) -> MutexGuard<'_, Kept<N, G>> {
+        self.wanted.join();
+        let kept = self.lock(rt);
+        self.wanted.leave();
+        kept
     }
 
     /// Loads a virtual processor on the token's processor, and waits while it is loaded on another one. After want of memory no
@@ -60,7 +82,7 @@ impl<N: Starts, const G: u8> GuestCell<N, G> {
         ensures waited { HasWaited result }
         ensures cell { NamesCell N.starts G token.old.number result }
     {
-        let mut kept = self.guest.lock(rt);
+        let mut kept = self.lock_soon(rt);
         for _ in rt.forever() {
             match kept.load(token, vcpu) {
                 Ok(Loaded::On(_)) => kept = self.moved.wait(rt, kept),
@@ -88,7 +110,7 @@ impl<N: Starts, const G: u8> GuestCell<N, G> {
         requires shared { shared_by resources.now ≡ N.shared }
         ensures { token.new ≡ with_told token.old G (told_of_turn (processor_of token.old) (vcpu_shown G token.old) result) }
     {
-        let mut kept = self.guest.lock(rt);
+        let mut kept = self.lock(rt);
         kept.agree(token);
         let turn = kept.turn(rt, alloc, token, resources, gate, at);
         self.wake(&mut kept);
@@ -114,7 +136,8 @@ impl<N: Starts, const G: u8> GuestCell<N, G> {
         ensures whole { result.stop ≡ Paused → (result.steps ≡ steps) ⊎ (result.turns ≡ BURST_TURNS) }
         ensures told { Bursts token.old G result token.new }
     {
-        let mut kept = self.guest.lock(rt);
+        self.wanted.make_way();
+        let mut kept = self.lock(rt);
         let burst = kept.burst(rt, alloc, token, resources, gate, at, steps);
         self.wake(&mut kept);
         burst
@@ -126,7 +149,7 @@ impl<N: Starts, const G: u8> GuestCell<N, G> {
         requires loaded { shown G token.old ≢ None }
         ensures { token.new ≡ with_told token.old G (Made (Unload (processor_of token.old)) ∷ []) }
     {
-        self.guest.lock(rt).unload(token);
+        self.lock_soon(rt).unload(token);
         self.moved.notify_all();
     }
 
@@ -145,7 +168,13 @@ impl<N: Starts, const G: u8> GuestCell<N, G> {
     pub fn wait_turn<R: Wait>(&self, rt: &R, token: &ProcToken, page: Ppn)
         requires { Fits N.starts N.board token.now }
     {
-        let mut kept = self.guest.lock(rt);
+        for _ in 0..LOOKS {
+            if !self.lock_soon(rt).guest.must_wait(token.number(), page) {
+                return;
+            }
+            rest();
+        }
+        let mut kept = self.lock(rt);
         for _ in rt.forever() {
             if !kept.guest.must_wait(token.number(), page) {
                 return;
@@ -173,7 +202,7 @@ impl<N: Starts, const G: u8> GuestCell<N, G> {
         ensures told { token.new ≡ with_told token.old G (told_of_ask (record { page = page.0; kind = kind; node = node.0 }) result) }
         ensures asked { HasAsked result }
     {
-        let mut kept = self.guest.lock(rt);
+        let mut kept = self.lock_soon(rt);
         for _ in rt.forever() {
             match kept.ask(alloc, token, page, kind, node, resources) {
                 Ok(Asked::Busy(_)) => match kept.guest.finish_ready(page, resources) {
@@ -191,11 +220,31 @@ impl<N: Starts, const G: u8> GuestCell<N, G> {
         unreachable!()
     }
 
+    /// Finishes the move of a page, unless it waits for processors; whether it is over.
+    fn finish_soon<R: Wait>(&self, rt: &R, page: Ppn, resources: &Resources) -> bool
+        requires { shared_by resources.now ≡ N.shared }
+    {
+        let mut kept = self.lock_soon(rt);
+        match kept.guest.finish_ready(page, resources) {
+            Ready::Waits(_) => false,
+            Ready::Finished | Ready::NoMove => {
+                self.moved.notify_all();
+                true
+            }
+        }
+    }
+
     /// Finishes the move of a page, and waits while it waits for processors.
     fn finish<R: Wait>(&self, rt: &R, page: Ppn, resources: &Resources)
         requires { shared_by resources.now ≡ N.shared }
     {
-        let mut kept = self.guest.lock(rt);
+        for _ in 0..LOOKS {
+            if self.finish_soon(rt, page, resources) {
+                return;
+            }
+            rest();
+        }
+        let mut kept = self.lock(rt);
         for _ in rt.forever() {
             match kept.guest.finish_ready(page, resources) {
                 Ready::Waits(_) => kept = self.moved.wait(rt, kept),
@@ -247,7 +296,7 @@ impl<N: Starts, const G: u8> GuestCell<N, G> {
         requires shared { shared_by resources.now ≡ N.shared }
         ensures { (told : List Note) × IsToldFailing cell result told × (token.new ≡ with_told token.old G told) }
     {
-        let mut kept = self.guest.lock(rt);
+        let mut kept = self.lock_soon(rt);
         let fate = kept.fail(token, cell, resources);
         self.moved.notify_all();
         fate
@@ -257,7 +306,11 @@ impl<N: Starts, const G: u8> GuestCell<N, G> {
     pub fn take_out(self) -> Guest
         ensures { IsGuestOf N.starts N.board N.shared G result }
     {
-        let GuestCell { guest, moved: _ } = self;
+        let GuestCell {
+            guest,
+            moved: _,
+            wanted: _,
+        } = self;
         let Kept {
             guest,
             moved: _,
