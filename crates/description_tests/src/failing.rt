@@ -3,12 +3,11 @@ use crate::cases::{
     Case, Change, DISK, FIFTEEN_STEPS, KEEPS_ONE, MOVE_AND_FAILURE, READS_A_BLOCK, machine,
     private, refused, try_all,
 };
-use crate::packets::{PRINTS_A_WORD, SENDS_A_PAGE};
 use base_words::{CellId, End, GuestId};
 use guest_core::{Cut, RunRecord};
 use monitor_run::disco;
 use outside_io::{CallList, FileList, FreeGate, MemShelf, MemSink};
-use run_cases::{file_of_parts, held, words_of};
+use run_cases::{PRINTS_A_WORD, SENDS_A_PAGE, file_of_parts, held, words_of};
 use std::alloc::{AllocError, Global};
 use std::process::Abort;
 use std::sync::Wait;
@@ -308,7 +307,7 @@ steps = 11
 fn a_packet_of_a_failed_cell_is_thrown_away(rt: HostRuntime) -> Result<(), Fail> {
     let run = Run {
         text: SENT_BEFORE,
-        programs: &[SENDS_A_PAGE.program, PRINTS_A_WORD.program],
+        programs: &[SENDS_A_PAGE, PRINTS_A_WORD],
         output: "guest 0 console 1\nQ\nend halted\nsums steps 15 refills 2 moves 0 skips 0 breaks 0 shared 0 received 0 discarded 0\nguest 1 console 0\n\nend budget\nsums steps 11 refills 1 moves 0 skips 0 breaks 0 shared 0 received 0 discarded 1\nfailure cell 1 ended none\n",
     };
     let _ = try_run(&rt, rt.alloc(), &run)?;

@@ -1,4 +1,4 @@
-//! Tests of the runs of descriptions: what is refused, disks and packets, pages that move and that are shared.
+//! Tests of the runs of descriptions: what is refused, disks, pages that move, cells that fail, and the printed text.
 #![tactic(auto)]
 
 #[cfg(test)]
@@ -8,20 +8,10 @@ mod descriptions;
 #[cfg(test)]
 mod failing;
 #[cfg(test)]
-mod guests;
-#[cfg(test)]
-mod handing_on;
-#[cfg(test)]
 mod moves;
-#[cfg(test)]
-mod packets;
 #[cfg(test)]
 mod policy;
 #[cfg(test)]
 mod refusals;
 #[cfg(test)]
 mod run_report_texts;
-#[cfg(test)]
-mod sharing;
-#[cfg(test)]
-mod storing_at_once;

@@ -9,11 +9,7 @@ pub(crate) const MACHINE: &str = "nodes = 1\nframes = 12\nprocessors = [0]\n";
 /// Stores P to page 2 and sends the whole page to guest 1; stores Q there and prints it. The send shares the page, so the store begins with
 /// a refill for reading, breaks the page, and goes on with another refill.
 pub(crate) const SENDS_A_PAGE: Guest<'static> = Guest {
-    program: &[
-        0x3C10CFFF, 0x3610F000, 0x3C0AC000, 0x240B0050, 0xAD4B2000, 0x24080002, 0xAE080030,
-        0x24091000, 0xAE090034, 0x240C0001, 0xAE0C0038, 0x240B0051, 0xAD4B2000, 0xAE0B0000,
-        0xAE000004,
-    ],
+    program: run_cases::SENDS_A_PAGE,
     console: "Q",
     end: "halted",
     steps: 15,
@@ -24,10 +20,7 @@ pub(crate) const SENDS_A_PAGE: Guest<'static> = Guest {
 
 /// Arms page 2 by its fourth step, waits until the length of the last packet isn't 0, and prints the first word of the page.
 pub(crate) const PRINTS_A_WORD: Guest<'static> = Guest {
-    program: &[
-        0x3C10CFFF, 0x3610F000, 0x24080002, 0xAE08003C, 0x8E090040, 0x1120FFFE, 0x00000000,
-        0x3C0AC000, 0x8D4B2000, 0xAE0B0000, 0xAE000004,
-    ],
+    program: run_cases::PRINTS_A_WORD,
     console: "P",
     end: "halted",
     steps: 11,
