@@ -47,7 +47,7 @@ quiet-joined v m q = by (v == 0) refl
 -- ---- after an instruction that keeps them
 
 pub keeps-all : (m : PrivateMachine) (v : ℕ) → Keeps m v m
-keeps-all m v = record { cp0 = refl; tlb = refl; steps = refl; devices = refl; pages = refl }
+keeps-all m v = record { cp0 = refl; tlb = refl; steps = refl; halted = refl; devices = refl; pages = refl }
 
 -- registers change nothing of it
 pub keeps-left : (m : PrivateMachine) (v : ℕ) (regs : Regs) → v < length m.vcpus → Keeps m v (left m v regs)
@@ -57,6 +57,7 @@ keeps-left m v regs there =
       cp0 = ap (λ (c : Vcpu). c.cp0) at;
       tlb = ap (λ (c : Vcpu). c.tlb) at;
       steps = ap (λ (c : Vcpu). c.steps) at;
+      halted = ap (λ (c : Vcpu). c.halted) at;
       devices = refl;
       pages = refl;
     }
@@ -66,6 +67,7 @@ keeps-then m n k v first next = record {
   cp0 = next.cp0 ∙ first.cp0;
   tlb = next.tlb ∙ first.tlb;
   steps = next.steps ∙ first.steps;
+  halted = next.halted ∙ first.halted;
   devices = next.devices ∙ first.devices;
   pages = next.pages ∙ first.pages;
 }
@@ -103,9 +105,13 @@ fetched-after m k v page there keeps f =
 pub quiet-after : QuietPass → (n v : ℕ) (m k : PrivateMachine) → v < length k.vcpus → Keeps m v k → AreQuiet n v m.vcpus m.devices → AreQuiet (n - 1) v (on_vcpu k v ticking).vcpus (on_vcpu k v ticking).devices
 quiet-after pass n v m k there keeps q = pass n v k.vcpus k.devices there (quiet-kept n v m k keeps q)
 
+-- one that goes on goes on
+pub running-after : (m k : PrivateMachine) (v : ℕ) → v < length k.vcpus → Keeps m v k → (vcpu m v).halted ≡ false → (vcpu (on_vcpu k v ticking) v).halted ≡ false
+running-after m k v there keeps goes_on = ap (λ (c : Vcpu). c.halted) (get_or-set_same k.vcpus v (ticking (vcpu k v)) no_vcpu there) ∙ keeps.halted ∙ goes_on
+
 -- none are quiet, and no page is known
 pub none-known : (m : PrivateMachine) (v : ℕ) → IsWindow m v (record { quiet = 0; fetched = None })
-none-known m v = record { quiet = record { interrupts = λ k lt. absurd (omega arith); input = λ first some. absurd (omega arith) }; fetched = tt }
+none-known m v = record { quiet = record { interrupts = λ k lt. absurd (omega arith); input = λ first some. absurd (omega arith) }; running = λ some. absurd (omega arith); fetched = tt }
 
 -- the line of the input changes nothing of the space
 pub space-joined : (m : PrivateMachine) (v : ℕ) → space_of (vcpu (joined m v) v) ≡ space_of (vcpu m v)
@@ -125,6 +131,7 @@ pages-joined m v = elim (v == 0) as (λ b. (if b then input_joined m else m).pag
 pub window-joined : (m : PrivateMachine) (v : ℕ) (page : Option FetchPage) → IsFetchPage (space_of (vcpu m v)) m.pages page → IsWindow (joined m v) v (record { quiet = 0; fetched = page })
 window-joined m v page f = record {
   quiet = (none-known (joined m v) v).quiet;
+  running = (none-known (joined m v) v).running;
   fetched = subst (λ (n : ℕ). IsFetchPage (space_of (vcpu (joined m v) v)) n page) (sym (pages-joined m v)) (subst (λ (s : AddressSpace). IsFetchPage s m.pages page) (sym (space-joined m v)) f);
 }
 

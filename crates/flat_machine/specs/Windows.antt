@@ -1,5 +1,5 @@
 -- What a run of steps of one virtual processor goes by.
-use Rattle.std.specs.Prelude.{◌≡◌, ℕ, ◌+◌, ◌*◌, ◌/◌, ◌%◌, ◌<◌, ◌≤◌, Option, Some, None, Ok, replicate}
+use Rattle.std.specs.Prelude.{◌≡◌, ℕ, false, ◌+◌, ◌*◌, ◌/◌, ◌%◌, ◌<◌, ◌≤◌, Option, Some, None, Ok, replicate}
 use Rattle.base_words.specs.declared.ids.VcpuId.{VcpuId}
 use Rattle.base_words.specs.declared.events.OwnEvent.TheVariants.{Step}
 use Rattle.private_machine.specs.PrivateRun.{private_run}
@@ -22,16 +22,18 @@ abbrev pub IsFetchPage : AddressSpace → ℕ → Option FetchPage → Type 0
 IsFetchPage space pages None = Unit {0}
 IsFetchPage space pages (Some page) = IsPageOf space pages page
 
--- nothing comes before so many steps, and the page is that of its fetches
+-- nothing comes before so many steps, the virtual processor makes them, and the page is that of its fetches
 pub record IsWindow (m : PrivateMachine) (v : ℕ) (w : Window) : Type 0 where
   pub quiet : AreQuiet w.quiet v m.vcpus m.devices
+  pub running : 0 < w.quiet → (vcpu m v).halted ≡ false
   pub fetched : IsFetchPage (space_of (vcpu m v)) m.pages w.fetched
 
--- an instruction left coprocessor 0, the TLB, the count of the steps and the devices as they were
+-- an instruction left coprocessor 0, the TLB, the count of the steps, whether it has halted and the devices as they were
 pub record Keeps (m : PrivateMachine) (v : ℕ) (n : PrivateMachine) : Type 0 where
   pub cp0 : (vcpu n v).cp0 ≡ (vcpu m v).cp0
   pub tlb : (vcpu n v).tlb ≡ (vcpu m v).tlb
   pub steps : (vcpu n v).steps ≡ (vcpu m v).steps
+  pub halted : (vcpu n v).halted ≡ (vcpu m v).halted
   pub devices : n.devices ≡ m.devices
   pub pages : n.pages ≡ m.pages
 

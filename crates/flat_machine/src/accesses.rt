@@ -88,6 +88,7 @@ impl Machine {
         requires physical { offset < 2 ^ 36 }
         requires aligned { offset % 4 % store_unit_of kind ≡ 0 }
         ensures sound { IsSound self.new }
+        ensures ready { self.new.ready ≡ self.old.ready }
         ensures stored { stored (machine_of self.old) vcpu.0 (advanced (vcpu_at (machine_of self.old) vcpu.0).registers) kind value (Ok (Memory offset)) ≡ Ok (machine_of self.new) }
     {
         let word = stored_word(kind, self.word_around(offset), value, (offset % 4) as u32);
@@ -110,6 +111,7 @@ impl Machine {
         ensures sound { IsSound self.new }
         ensures attempts { Attempts (requested (machine_of self.old) vcpu.0 (asks.Store kind address value)) (machine_of self.old) (machine_of self.new) result }
         ensures keeps { result ≡ Ok changes.Memory → Keeps (machine_of self.old) vcpu.0 (machine_of self.new) }
+        ensures ready { result ≡ Ok changes.Memory → self.new.ready ≡ true }
     {
         let place = self
             .vcpu(vcpu)

@@ -1,5 +1,5 @@
 //! Steps, and packets that come in.
-ghost use Rattle.std.specs.Prelude.{◌≡◌, ◌<◌, ◌≤◌, OnOk, OnErr, Ok, length, true, false, replicate};
+ghost use Rattle.std.specs.Prelude.{◌≡◌, ◌≢◌, ◌<◌, ◌≤◌, IfOk, OnOk, OnErr, Ok, length, not, true, false, replicate};
 ghost use Rattle.base_words.specs.Instruction.{effect};
 ghost use Rattle.base_words.specs.OpcodeMap.{decoded};
 ghost use Rattle.base_words.specs.Coprocessor.{in_user_mode, interrupts};
@@ -107,6 +107,7 @@ impl Machine {
         ensures sound { IsSound self.new }
         ensures attempts { Attempts (requested (machine_of self.old) vcpu.0 request) (machine_of self.old) (machine_of self.new) result }
         ensures keeps { result ≡ Ok changes.Memory → Keeps (machine_of self.old) vcpu.0 (machine_of self.new) }
+        ensures ready { result ≡ Ok changes.Memory → self.new.ready ≡ true }
     {
         match request {
             Request::Nothing => Ok(Change::Memory),
@@ -163,6 +164,7 @@ impl Machine {
         ensures sound { IsSound self.new }
         ensures attempts { Attempts (attempted (machine_of self.old) vcpu.0) (machine_of self.old) (machine_of self.new) result }
         ensures keeps { result ≡ Ok changes.Memory → Keeps (machine_of self.old) vcpu.0 (machine_of self.new) }
+        ensures ready { result ≡ Ok changes.Memory → self.new.ready ≡ true }
         ensures fetched { IsFetchPage (space_of (vcpu_at (machine_of self.old) vcpu.0)) self.old.pages fetched.new }
     {
         let word = self.fetch(vcpu, fetched)?;
@@ -181,6 +183,7 @@ impl Machine {
         ensures sound { IsSound self.new }
         ensures acted { machine_of self.new ≡ acted (machine_of self.old) vcpu.0 }
         ensures keeps { result ≡ changes.Memory → Keeps (machine_of self.old) vcpu.0 (machine_of self.new) }
+        ensures ready { result ≡ changes.Memory → self.new.ready ≡ true }
         ensures fetched { IsFetchPage (space_of (vcpu_at (machine_of self.old) vcpu.0)) self.old.pages fetched.new }
     {
         if !quiet && self.vcpu(vcpu).cp0.pending() {
@@ -217,6 +220,7 @@ impl Machine {
         requires sound { IsSound self.old }
         requires there { vcpu.0 < length (machine_of self.old).vcpus }
         requires window { IsWindow (machine_of self.old) vcpu.0 window.old }
+        requires running { (vcpu_at (machine_of self.old) vcpu.0).halted ≡ false }
         ensures sound { IsSound self.new }
         ensures ready { self.new.ready ≡ self.old.ready }
         ensures count { length (machine_of self.new).vcpus ≡ length (machine_of self.old).vcpus }
@@ -234,23 +238,48 @@ impl Machine {
         true
     }
 
+    /// Whether a virtual processor makes a step, as it hasn't halted; there is room for what the step may print and send then. Before a quiet
+    /// step both are known.
+    #[inline(always)]
+    fn starts(&mut self, vcpu: VcpuId, window: &Window) -> Result<bool, AllocError>
+        requires sound { IsSound self.old }
+        requires there { vcpu.0 < length (machine_of self.old).vcpus }
+        requires window { IsWindow (machine_of self.old) vcpu.0 window.now }
+        requires ready { 0 < window.now.quiet → self.old.ready ≡ true }
+        ensures sound { IsSound self.new }
+        ensures same { machine_of self.new ≡ machine_of self.old }
+        ensures starts { IfOk result (λ b. b ≡ not (vcpu_at (machine_of self.old) vcpu.0).halted) }
+        ensures ready { result ≡ Ok true → self.new.ready ≡ true }
+        ensures unknown { result ≢ Ok true → window.now.quiet ≡ 0 }
+    {
+        if window.quiet > 0 {
+            return Ok(true);
+        }
+        if self.vcpu(vcpu).halted {
+            return Ok(false);
+        }
+        self.make_ready()?;
+        Ok(true)
+    }
+
     /// One step of a virtual processor; one that has halted changes nothing. The window is what it goes by, and the next one.
     #[inline(always)]
     fn own_step(&mut self, vcpu: VcpuId, window: &mut Window) -> Result<(), AllocError>
         requires sound { IsSound self.old }
         requires there { vcpu.0 < length (machine_of self.old).vcpus }
         requires window { IsWindow (machine_of self.old) vcpu.0 window.old }
+        requires ready { 0 < window.old.quiet → self.old.ready ≡ true }
         ensures sound { IsSound self.new }
         ensures count { length (machine_of self.new).vcpus ≡ length (machine_of self.old).vcpus }
         ensures stepped { OnOk result (machine_of self.new ≡ own_step (machine_of self.old) vcpu.0) }
         ensures refused { OnErr result (machine_of self.new ≡ machine_of self.old) }
         ensures window { IsWindow (machine_of self.new) vcpu.0 window.new }
+        ensures ready { 0 < window.new.quiet → self.new.ready ≡ true }
     {
         quiet_steps_pass();
-        if self.vcpu(vcpu).halted {
+        if !self.starts(vcpu, window)? {
             return Ok(());
         }
-        self.make_ready()?;
         let quiet = self.prepare(vcpu, window);
         let change = self.act(vcpu, quiet, &mut window.fetched);
         self.tick(vcpu);

@@ -11,6 +11,7 @@ use Rattle.private_machine.specs.Backing.{Held}
 use Rattle.private_machine.specs.Reaching.{Sight, Wanted, Reached as Place, Lack as Want, NoRange, NoHalf, DeadFrame, NoStore}
 use Rattle.private_machine.specs.DirectAccess.{Outcome}
 use Rattle.hw_cpu.specs.declared.reaching.Reached.{Reached}
+use Rattle.hw_cpu.specs.declared.reaching.Wanted.{Wanted as Access}
 use Rattle.hw_cpu.specs.declared.reaching.Lack.{Lack}
 use Rattle.hw_cpu.specs.declared.reaching.Lack.TheVariants as lacks
 use Rattle.hw_cpu.specs.Site.{Site}
@@ -21,6 +22,9 @@ sight_of user asid line tlb site = record { user = user; asid = asid; line = lin
 
 abbrev pub wanted_at : Use → ℕ → ℕ → Wanted
 wanted_at purpose unit address = record { purpose = purpose; unit = unit; address = address }
+
+abbrev pub as_wanted : Access → Wanted
+as_wanted w = wanted_at w.purpose w.unit w.address
 
 -- whether a range is one of the mode's
 abbrev pub is_within : Segment → Bool

@@ -3,9 +3,10 @@ ghost use Rattle.std.specs.Prelude.{◌≡◌, ◌<◌, ◌/◌, ◌%◌, true, 
 ghost use Rattle.base_words.specs.Halves.{is_of};
 ghost use Rattle.base_words.specs.Place.{is_store as is_store_of, segment};
 ghost use Rattle.hw_tlb.specs.Tlb.{halves};
+ghost use Rattle.hw_tlb.specs.Lookup.{looked_up};
 ghost use Rattle.private_machine.specs.Serving.{Backs, BacksAlone, AllServe};
 ghost use Rattle.private_machine.specs.Reaching.{Sight, reached, through_half, fetch_at};
-ghost use Rattle.hw_cpu.specs.Steps.{sight_of, place_of, want_of, wanted_at, ReachesNone, is_within};
+ghost use Rattle.hw_cpu.specs.Steps.{sight_of, place_of, want_of, wanted_at, as_wanted, ReachesNone, is_within};
 ghost use Rattle.hw_cpu.specs.FetchPages.{IsFetchPage};
 
 use crate::Bus;
@@ -17,6 +18,14 @@ use hw_tlb::{HwAnswer, HwTlb};
 pub struct Reached {
     pub page: Ppn,
     pub frame: FrameNo,
+}
+
+/// An access that is wanted: its address has to be a multiple of `unit`.
+#[derive(Clone, Copy, Debug, PartialEq, Eq)]
+pub struct Wanted {
+    pub purpose: Use,
+    pub unit: u32,
+    pub address: u32,
 }
 
 /// What all fetches from one virtual page reach.
@@ -89,6 +98,15 @@ fn find<B: Bus>(mode: Mode, tlb: &HwTlb, bus: &B, purpose: Use, address: u32) ->
     }
 }
 
+/// What the TLB says of an access, where nothing was reached.
+#[cold]
+#[inline(never)]
+fn answer_anew(mode: Mode, tlb: &HwTlb, purpose: Use, address: u32) -> HwAnswer
+    ensures { result ≡ looked_up (halves tlb.now) address mode.asid (is_store_of purpose) }
+{
+    tlb.lookup(address, mode.asid, is_store(purpose))
+}
+
 /// Why no frame is reached by the half that matches. A frame that is dead counts before a half that isn't writable.
 #[inline(always)]
 fn find_denial<B: Bus>(mode: Mode, tlb: &HwTlb, bus: &B, purpose: Use, address: u32) -> Lack
@@ -96,7 +114,7 @@ fn find_denial<B: Bus>(mode: Mode, tlb: &HwTlb, bus: &B, purpose: Use, address: 
     requires none { ReachesNone (through_half (sight_of mode.user mode.asid false (halves tlb.now) (B.site bus.now)) (wanted_at purpose 1 address) (find_of (is_of (address / 4096) mode.asid) (halves tlb.now))) }
     ensures { through_half (sight_of mode.user mode.asid false (halves tlb.now) (B.site bus.now)) (wanted_at purpose 1 address) (find_of (is_of (address / 4096) mode.asid) (halves tlb.now)) ≡ Err (want_of result) }
 {
-    match tlb.lookup(address, mode.asid, is_store(purpose)) {
+    match answer_anew(mode, tlb, purpose, address) {
         HwAnswer::Hit(frame, page) => Lack::Dead(Reached { page, frame }),
         HwAnswer::Miss => Lack::Half,
         HwAnswer::ReadOnly(frame, page) => {
@@ -109,24 +127,22 @@ fn find_denial<B: Bus>(mode: Mode, tlb: &HwTlb, bus: &B, purpose: Use, address: 
     }
 }
 
-/// The page and the frame that an access reaches, whose address has to be a multiple of `unit`, if it reaches one.
+/// The page and the frame that an access reaches, if it reaches one.
 #[inline(always)]
-pub fn reach<B: Bus>(
-    mode: Mode,
-    tlb: &HwTlb,
-    bus: &B,
-    purpose: Use,
-    unit: u32,
-    address: u32,
-) -> Option<Reached>
+pub fn reach<B: Bus>(mode: Mode, tlb: &HwTlb, bus: &B, wanted: Wanted) -> Option<Reached>
     requires serves { AllServe (B.held bus.now) (halves tlb.now) }
-    requires some { 0 < unit }
-    ensures found { IfSome result (λ at. reached (sight_of mode.user mode.asid false (halves tlb.now) (B.site bus.now)) (wanted_at purpose unit address) ≡ Ok (place_of at)) }
-    ensures none { result ≡ None → ReachesNone (reached (sight_of mode.user mode.asid false (halves tlb.now) (B.site bus.now)) (wanted_at purpose unit address)) }
-    ensures aligned { IfSome result (λ _. address % unit ≡ 0) }
+    requires some { 0 < wanted.unit }
+    ensures found { IfSome result (λ at. reached (sight_of mode.user mode.asid false (halves tlb.now) (B.site bus.now)) (as_wanted wanted) ≡ Ok (place_of at)) }
+    ensures none { result ≡ None → ReachesNone (reached (sight_of mode.user mode.asid false (halves tlb.now) (B.site bus.now)) (as_wanted wanted)) }
+    ensures aligned { IfSome result (λ _. wanted.address % wanted.unit ≡ 0) }
     ensures backed { IfSome result (λ at. Backs (B.held bus.now) at.page.0 at.frame.0) }
-    ensures alone { IfSome result (λ at. is_store_of purpose ≡ true → BacksAlone (B.held bus.now) at.page.0 at.frame.0) }
+    ensures alone { IfSome result (λ at. is_store_of wanted.purpose ≡ true → BacksAlone (B.held bus.now) at.page.0 at.frame.0) }
 {
+    let Wanted {
+        purpose,
+        unit,
+        address,
+    } = wanted;
     if address % unit != 0 || !is_in_range(mode.user, address) {
         return None;
     }
@@ -135,23 +151,34 @@ pub fn reach<B: Bus>(
 
 /// Why an access reaches no frame.
 #[inline(always)]
-pub fn denial<B: Bus>(
-    mode: Mode,
-    tlb: &HwTlb,
-    bus: &B,
-    purpose: Use,
-    unit: u32,
-    address: u32,
-) -> Lack
+pub fn denial<B: Bus>(mode: Mode, tlb: &HwTlb, bus: &B, wanted: Wanted) -> Lack
     requires serves { AllServe (B.held bus.now) (halves tlb.now) }
-    requires some { 0 < unit }
-    requires none { ReachesNone (reached (sight_of mode.user mode.asid false (halves tlb.now) (B.site bus.now)) (wanted_at purpose unit address)) }
-    ensures { reached (sight_of mode.user mode.asid false (halves tlb.now) (B.site bus.now)) (wanted_at purpose unit address) ≡ Err (want_of result) }
+    requires some { 0 < wanted.unit }
+    requires none { ReachesNone (reached (sight_of mode.user mode.asid false (halves tlb.now) (B.site bus.now)) (as_wanted wanted)) }
+    ensures { reached (sight_of mode.user mode.asid false (halves tlb.now) (B.site bus.now)) (as_wanted wanted) ≡ Err (want_of result) }
 {
+    let Wanted {
+        purpose,
+        unit,
+        address,
+    } = wanted;
     if address % unit != 0 || !is_in_range(mode.user, address) {
         return Lack::Range;
     }
     find_denial(mode, tlb, bus, purpose, address)
+}
+
+/// The fetch from an address.
+#[inline(always)]
+pub fn fetch_of(pc: u32) -> Wanted
+    ensures fetch { as_wanted result ≡ fetch_at pc }
+    ensures some { 0 < result.unit }
+{
+    Wanted {
+        purpose: Use::Fetch,
+        unit: 4,
+        address: pc,
+    }
 }
 
 /// What a fetch reaches through the TLB, if anything; all fetches of its page reach it.
@@ -176,7 +203,7 @@ pub fn fetch<B: Bus>(
     {
         return Some(page.at);
     }
-    let at = reach(mode, tlb, bus, Use::Fetch, 4, pc)?;
+    let at = reach(mode, tlb, bus, fetch_of(pc))?;
     *last = Some(FetchPage {
         number: pc / PAGE,
         at,

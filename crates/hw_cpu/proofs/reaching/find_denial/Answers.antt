@@ -1,4 +1,5 @@
 use Rattle.std.proofs.Common.{sym, ◌∙◌, subst}
+use Rattle.base_words.specs.Place.{is_store}
 use Rattle.hw_tlb.specs.Tlb.{halves}
 use Rattle.hw_tlb.specs.declared.answer.HwAnswer.{HwAnswer}
 use Rattle.hw_cpu.proofs.Serving.{good, Good}
@@ -7,6 +8,6 @@ use Rattle.hw_cpu.proofs.reaching.find_denial.Goals as goal
 pub is_dead-requires : goal.is_dead-requires
 is_dead-requires g c =
     let held = g.B.Bus.held c.args.bus.now in
-    let store = c.is_store.result in
-    let it = subst (λ (a : HwAnswer). Good held store a) (sym c.lookup.ensures.answer ∙ c.in-ReadOnly.is) (good held (halves c.args.tlb.now) c.args.address c.args.mode.asid store c.requires.serves) in
+    let store = is_store c.args.purpose in
+    let it = subst (λ (a : HwAnswer). Good held store a) (sym c.answer_anew.ensures ∙ c.in-ReadOnly.is) (good held (halves c.args.tlb.now) c.args.address c.args.mode.asid store c.requires.serves) in
     (c.in-ReadOnly.page.0, it)

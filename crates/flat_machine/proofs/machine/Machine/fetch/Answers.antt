@@ -1,5 +1,5 @@
 -- From the page of the last fetch.
-use Rattle.std.proofs.Common.{◌≡◌, ◌+◌, ◌-◌, ◌/◌, ◌%◌, ℕ, Option, Some, Result, Ok, sym, ap, ◌∙◌, subst, arith}
+use Rattle.std.proofs.Common.{◌≡◌, ◌+◌, ◌-◌, ◌/◌, ◌%◌, ℕ, Option, Ok, sym, ap, ◌∙◌, subst, arith}
 use Rattle.base_words.specs.declared.exception.Use.TheVariants.{Fetch}
 use Rattle.base_words.specs.declared.place.Place.TheVariants.{Memory}
 use Rattle.base_words.specs.Memory.{word_at}

@@ -13,5 +13,6 @@ loop-preserved c =
       sound = c.own_step.ensures.sound;
       count = c.own_step.ensures.count ∙ before.count;
       window = c.own_step.ensures.window;
+      ready = c.own_step.ensures.ready;
       made = c.in_ok-own_step.ensures.stepped ∙ ap (λ m. own_step m c.args.vcpu.0) before.made ∙ sym (run-again (machine_of c.args.self.now) c.loop.counter (Step c.args.vcpu));
     }

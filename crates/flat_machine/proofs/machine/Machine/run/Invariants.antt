@@ -1,4 +1,4 @@
-use Rattle.std.proofs.Common.{◌≡◌, length, replicate}
+use Rattle.std.proofs.Common.{◌≡◌, ◌<◌, true, length, replicate}
 use Rattle.base_words.specs.declared.events.OwnEvent.TheVariants.{Step}
 use Rattle.private_machine.specs.PrivateRun.{private_run}
 use Rattle.flat_machine.specs.FlatView.{machine_of, IsSound}
@@ -11,5 +11,6 @@ invariant-loop l = record {
   sound : IsSound l.self;
   count : length (machine_of l.self).vcpus ≡ length (machine_of l.fn.self).vcpus;
   window : IsWindow (machine_of l.self) l.vcpu.0 l.window;
+  ready : 0 < l.window.quiet → l.self.ready ≡ true;
   made : machine_of l.self ≡ private_run (machine_of l.fn.self) (replicate l.counter (Step l.vcpu));
 }
