@@ -1,5 +1,5 @@
 //! A guest that runs, entry by entry.
-ghost use Rattle.std.specs.Prelude.{◌≡◌, ◌≢◌, ◌<◌, ◌≤◌, ◌∷◌, [], ℕ, IfOk, None, length, slice_index_or};
+ghost use Rattle.std.specs.Prelude.{◌≡◌, ◌≢◌, ◌<◌, ◌≤◌, ◌∷◌, [], ℕ, None, length, slice_index_or};
 ghost use Rattle.std.specs.Arc.{arc_value};
 ghost use Rattle.cow_disk.specs.DiskView.{bytes_of};
 ghost use Rattle.guest_course.specs.BootCalls.{AreWhole};
@@ -10,16 +10,16 @@ ghost use Rattle.guest_course.specs.StepCalls.{MayStep};
 ghost use Rattle.wire_queue.specs.Packets.{packet_of};
 
 use crate::guest_course_turns::cell_of;
+use crate::telling::gave;
 use base_words::{
     Blocks, CellId, DataAccess, Frame, FrameList, FrameNo, GuestId, HwStep, NodeId, Page, Policy,
     ProcId, Sequence, Shape, VcpuId,
 };
 use cow_disk::Disk;
 use guest_course::{Around, Course, Entry, Hurdle, Site};
-use std::alloc::{AllocError, Global};
+use std::alloc::Global;
 use std::process::Abort;
 use std::sync::Arc;
-use std::test::Fail;
 use wire_queue::{Body, WirePacket};
 
 /// A program at the start of memory: LUI 2, CFFF; ORI 2, 2, F000; LUI 3, C000; ORI 1, 0, 48; SW 1, 1000(3); LW 4, 1000(3);
@@ -54,44 +54,44 @@ const PACKET_PROGRAM: [u8; 56] = [
 ];
 
 /// An empty frame of node 0.
-pub(crate) fn frame(alloc: Global, number: u32) -> Result<Frame, AllocError>
-    ensures { IfOk result (λ frame. length frame.page.value ≡ 4096) }
+pub(crate) fn frame(rt: &impl Abort, alloc: Global, number: u32) -> Frame
+    ensures { length result.page.value ≡ 4096 }
 {
-    Ok(Frame {
+    Frame {
         number: FrameNo(number),
         generation: 1,
-        page: Page::zeroed(alloc)?,
-    })
+        page: gave(rt, Page::zeroed(alloc)),
+    }
 }
 
 /// Two frames of node 0 with a program.
-fn frames(alloc: Global, program: &[u8]) -> Result<FrameList, AllocError>
+fn frames(rt: &impl Abort, alloc: Global, program: &[u8]) -> FrameList
     requires { length program.now ≤ 4096 }
-    ensures count { IfOk result (λ frames. length frames ≡ 2) }
-    ensures whole { IfOk result AreWhole }
+    ensures count { length result ≡ 2 }
+    ensures whole { AreWhole result }
 {
-    let mut first = frame(alloc, 2)?;
+    let mut first = frame(rt, alloc, 2);
     first.page.fill_from(0, program);
     let mut frames = Sequence::new(alloc);
-    frames.push(first)?;
-    frames.push(frame(alloc, 5)?)?;
-    Ok(frames)
+    gave(rt, frames.push(first));
+    gave(rt, frames.push(frame(rt, alloc, 5)));
+    frames
 }
 
 /// One node of eight frames with one processor, on which two guests are at home, and no policy.
-pub(crate) fn around(alloc: Global) -> Result<Around, AllocError>
-    ensures nodes { IfOk result (λ around. around.site.shape.nodes ≡ 1) }
-    ensures frames { IfOk result (λ around. around.site.shape.frames ≡ 8) }
-    ensures processors { IfOk result (λ around. around.site.processors ≡ record { 0 = 0 } ∷ []) }
+pub(crate) fn around(rt: &impl Abort, alloc: Global) -> Around
+    ensures nodes { result.site.shape.nodes ≡ 1 }
+    ensures frames { result.site.shape.frames ≡ 8 }
+    ensures processors { result.site.processors ≡ record { 0 = 0 } ∷ [] }
 {
     let mut cells = Sequence::new(alloc);
-    cells.push(CellId(0))?;
+    gave(rt, cells.push(CellId(0)));
     let mut processors = Sequence::new(alloc);
-    processors.push(NodeId(0))?;
+    gave(rt, processors.push(NodeId(0)));
     let mut homes = Sequence::new(alloc);
-    homes.push(CellId(0))?;
-    homes.push(CellId(0))?;
-    Ok(Around {
+    gave(rt, homes.push(CellId(0)));
+    gave(rt, homes.push(CellId(0)));
+    Around {
         number: GuestId(0),
         disk: 0,
         home: NodeId(0),
@@ -108,7 +108,7 @@ pub(crate) fn around(alloc: Global) -> Result<Around, AllocError>
                 replicate: 0,
             },
         },
-    })
+    }
 }
 
 /// Makes an entry on the processor: what it is, and the frame of its data access, if it has one.
@@ -135,19 +135,22 @@ fn enter(course: &mut Course, vcpu: VcpuId) -> (u8, Option<FrameNo>)
 }
 
 #[test]
-fn a_guest_prints_what_it_stored(rt: HostRuntime) -> Result<(), Fail> {
+fn a_guest_prints_what_it_stored(rt: HostRuntime) {
     let alloc = rt.alloc();
-    let frames = frames(alloc, PROGRAM.as_slice())?;
+    let frames = frames(&rt, alloc, PROGRAM.as_slice());
     let disk = Disk::new(alloc, None);
-    let mut course = Course::boot(
-        alloc,
-        around(alloc)?,
-        0xC000_0000,
-        1,
-        frames,
-        disk,
-        &Sequence::new(alloc),
-    )?;
+    let mut course = gave(
+        &rt,
+        Course::boot(
+            alloc,
+            around(&rt, alloc),
+            0xC000_0000,
+            1,
+            frames,
+            disk,
+            &Sequence::new(alloc),
+        ),
+    );
     assert!(rt; !course.is_dead(cell_of(&course, ProcId(0))));
     course.load(ProcId(0), VcpuId(0));
     let expected = [
@@ -163,65 +166,66 @@ fn a_guest_prints_what_it_stored(rt: HostRuntime) -> Result<(), Fail> {
         (4, None),
     ];
     for entry in expected {
-        course.reserve()?;
+        gave(&rt, course.reserve());
         assert!(rt; 0 < course.places.len());
         let Some(vcpu) = course.ready(ProcId(0)) else {
             panic!(rt; "nobody is ready for {entry:?}");
         };
-        assert_eq!(rt; vcpu, VcpuId(0));
-        assert_eq!(rt; enter(&mut course, vcpu), entry);
+        assert!(rt; vcpu == VcpuId(0));
+        assert!(rt; enter(&mut course, vcpu) == entry);
     }
     assert!(rt; course.has_halted());
     assert!(rt; 0 < course.places.len());
-    assert_eq!(rt; course.ready(ProcId(0)), None);
+    assert!(rt; course.ready(ProcId(0)).is_none());
     assert!(rt; *course.devs.console() == *b"H".as_slice());
-    Ok(())
 }
 
 /// A disk of one block, whose first byte is a G.
-fn block(alloc: Global) -> Result<Arc<Blocks>, AllocError>
-    ensures one { IfOk result (λ base. length (arc_value base) ≡ 1) }
-    ensures whole { IfOk result (λ base. (k : ℕ) → k < length (bytes_of (arc_value base)) → length (slice_index_or (bytes_of (arc_value base)) k []) ≡ 4096) }
+fn block(rt: &impl Abort, alloc: Global) -> Arc<Blocks>
+    ensures one { length (arc_value result) ≡ 1 }
+    ensures whole { (k : ℕ) → k < length (bytes_of (arc_value result)) → length (slice_index_or (bytes_of (arc_value result)) k []) ≡ 4096 }
 {
-    let mut page = Page::zeroed(alloc)?;
+    let mut page = gave(rt, Page::zeroed(alloc));
     page.set_byte(0, b'G');
     let mut blocks = Sequence::new(alloc);
-    blocks.push(page)?;
-    Ok(Arc::new(alloc, blocks)?)
+    gave(rt, blocks.push(page));
+    gave(rt, Arc::new(alloc, blocks))
 }
 
 /// Makes an entry on the processor, and carries out what it leaves where no page is in its way.
-fn advance(alloc: Global, course: &mut Course, vcpu: VcpuId) -> Result<(), AllocError>
+fn advance(rt: &impl Abort, alloc: Global, course: &mut Course, vcpu: VcpuId)
     requires sound { IsSound course.old }
     requires may { MayStep (state_of course.old) 0 vcpu.0 }
     ensures { IsSound course.new }
 {
-    course.reserve()?;
+    gave(rt, course.reserve());
     if let HwStep::Trap(cause) = course.step(ProcId(0), vcpu) {
         if let Entry::Left(act) = course.serve(ProcId(0), vcpu, cause) {
             match course.act_hurdle(vcpu, act) {
-                Hurdle::Free => course.carry_out(alloc, vcpu, act)?,
+                Hurdle::Free => gave(rt, course.carry_out(alloc, vcpu, act)),
                 Hurdle::Waits(_) | Hurdle::Needs(..) => {}
             }
         }
     }
-    Ok(())
 }
 
 #[test]
-fn a_guest_prints_what_its_disk_has(rt: HostRuntime) -> Result<(), Fail> {
+fn a_guest_prints_what_its_disk_has(rt: HostRuntime) {
     let alloc = rt.alloc();
-    let frames = frames(alloc, DISK_PROGRAM.as_slice())?;
-    let disk = Disk::new(alloc, Some(block(alloc)?));
-    let mut course = Course::boot(
-        alloc,
-        around(alloc)?,
-        0xC000_0000,
-        1,
-        frames,
-        disk,
-        &Sequence::new(alloc),
-    )?;
+    let frames = frames(&rt, alloc, DISK_PROGRAM.as_slice());
+    let disk = Disk::new(alloc, Some(block(&rt, alloc)));
+    let mut course = gave(
+        &rt,
+        Course::boot(
+            alloc,
+            around(&rt, alloc),
+            0xC000_0000,
+            1,
+            frames,
+            disk,
+            &Sequence::new(alloc),
+        ),
+    );
     assert!(rt; !course.is_dead(cell_of(&course, ProcId(0))));
     course.load(ProcId(0), VcpuId(0));
     for _entry in 0..60 {
@@ -229,75 +233,77 @@ fn a_guest_prints_what_its_disk_has(rt: HostRuntime) -> Result<(), Fail> {
         let Some(vcpu) = course.ready(ProcId(0)) else {
             break;
         };
-        advance(alloc, &mut course, vcpu)?;
+        advance(&rt, alloc, &mut course, vcpu);
     }
     assert!(rt; course.has_halted());
     assert!(rt; *course.devs.console() == *b"H1".as_slice());
-    Ok(())
 }
 
 /// A packet of guest 1 of three bytes, of which the first is a P.
-fn packet(alloc: Global) -> Result<WirePacket, AllocError>
-    ensures long { IfOk result (λ packet. packet.length ≡ 3) }
-    ensures whole { IfOk result (λ packet. length (hand_of packet).bytes ≡ 3) }
-    ensures copied { IfOk result (λ packet. (packet_of packet).whole ≡ None) }
+fn packet(rt: &impl Abort, alloc: Global) -> WirePacket
+    ensures long { result.length ≡ 3 }
+    ensures whole { length (hand_of result).bytes ≡ 3 }
+    ensures copied { (packet_of result).whole ≡ None }
 {
-    let mut page = Page::zeroed(alloc)?;
+    let mut page = gave(rt, Page::zeroed(alloc));
     page.set_byte(0, b'P');
-    Ok(WirePacket {
+    WirePacket {
         from: GuestId(1),
         length: 3,
         cell: CellId(0),
         body: Body::Plain(page),
-    })
+    }
 }
 
 /// A packet comes to hand, and into the armed page where that may change.
-fn come(alloc: Global, course: &mut Course) -> Result<(), AllocError>
+fn come(rt: &impl Abort, alloc: Global, course: &mut Course)
     requires sound { IsSound course.old }
     requires goes_on { GoesOn (state_of course.old) }
     requires free { course.old.hand ≡ None }
     requires armed { (state_of course.old).devices.armed ≢ None }
     ensures { IsSound course.new }
 {
-    course.reserve()?;
-    course.take_in_hand(packet(alloc)?);
+    gave(rt, course.reserve());
+    course.take_in_hand(packet(rt, alloc));
     if course.lost_packet().is_some() {
-        return Err(AllocError);
+        panic!(rt; "the packet is lost");
     }
     match course.packet_hurdle() {
-        Hurdle::Free => course.receive(alloc),
-        Hurdle::Waits(_) | Hurdle::Needs(..) => Ok(()),
+        Hurdle::Free => gave(rt, course.receive(alloc)),
+        Hurdle::Waits(_) | Hurdle::Needs(..) => {}
     }
 }
 
 /// A packet comes where a page is armed; else the guest makes an entry.
-fn come_or_advance(alloc: Global, course: &mut Course, vcpu: VcpuId) -> Result<(), AllocError>
+fn come_or_advance(rt: &impl Abort, alloc: Global, course: &mut Course, vcpu: VcpuId)
     requires sound { IsSound course.old }
     requires may { MayStep (state_of course.old) 0 vcpu.0 }
     ensures { IsSound course.new }
 {
     if course.armed().is_some() && course.hand.is_none() {
-        come(alloc, course)
+        come(rt, alloc, course);
     } else {
-        advance(alloc, course, vcpu)
+        advance(rt, alloc, course, vcpu);
     }
 }
 
 #[test]
-fn a_packet_comes_into_the_armed_page(rt: HostRuntime) -> Result<(), Fail> {
+fn a_packet_comes_into_the_armed_page(rt: HostRuntime) {
     let alloc = rt.alloc();
-    let frames = frames(alloc, PACKET_PROGRAM.as_slice())?;
+    let frames = frames(&rt, alloc, PACKET_PROGRAM.as_slice());
     let disk = Disk::new(alloc, None);
-    let mut course = Course::boot(
-        alloc,
-        around(alloc)?,
-        0xC000_0000,
-        1,
-        frames,
-        disk,
-        &Sequence::new(alloc),
-    )?;
+    let mut course = gave(
+        &rt,
+        Course::boot(
+            alloc,
+            around(&rt, alloc),
+            0xC000_0000,
+            1,
+            frames,
+            disk,
+            &Sequence::new(alloc),
+        ),
+    );
     assert!(rt; !course.is_dead(cell_of(&course, ProcId(0))));
     course.load(ProcId(0), VcpuId(0));
     for _entry in 0..40 {
@@ -305,11 +311,10 @@ fn a_packet_comes_into_the_armed_page(rt: HostRuntime) -> Result<(), Fail> {
         let Some(vcpu) = course.ready(ProcId(0)) else {
             break;
         };
-        come_or_advance(alloc, &mut course, vcpu)?;
+        come_or_advance(&rt, alloc, &mut course, vcpu);
     }
     assert!(rt; course.has_halted());
-    assert_eq!(rt; course.received.len(), 1);
+    assert!(rt; course.received.len() == 1);
     assert!(rt; course.armed().is_none());
     assert!(rt; *course.devs.console() == *b"P31".as_slice());
-    Ok(())
 }

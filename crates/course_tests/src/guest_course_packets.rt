@@ -1,5 +1,5 @@
 //! A packet that hands on a frame: the page that is armed is taken shared with it.
-ghost use Rattle.std.specs.Prelude.{◌≡◌, ◌≢◌, ◌<◌, ◌*◌, ℕ, IfOk, None, Some, length};
+ghost use Rattle.std.specs.Prelude.{◌≡◌, ◌≢◌, ◌<◌, ◌*◌, ℕ, None, Some, length};
 ghost use Rattle.std.specs.Bool.{OnTrue};
 ghost use Rattle.std.specs.Vec.{vec_len, vec_capacity};
 ghost use Rattle.private_machine.specs.Backing.{page_at};
@@ -14,12 +14,12 @@ use crate::guest_course_sharing::{
     PAGE, UP_TO_PAGE_1, guest, page_of, ready, try_end, try_page, try_turns,
 };
 use crate::guest_course_turns::{Did, lies_alive};
+use crate::telling::gave;
 use base_words::{CellId, FrameNo, GuestId, MoveKind, Ppn, SharedFrame};
 use guest_course::{Around, Course, Hurdle};
-use std::alloc::{AllocError, Global};
+use std::alloc::Global;
 use std::process::Abort;
 use std::sync::Arc;
-use std::test::Fail;
 use wire_queue::{Body, WirePacket};
 
 /// A program at the start of memory: LUI 2, CFFF; ORI 2, 2, F000; LUI 3, C000; ORI 1, 0, 1; SB 1, 1000(3); SW 1, 3C(2); LBU 4, 1000(3);
@@ -31,25 +31,27 @@ const ARMS_A_PAGE: [u8; 36] = [
 ];
 
 /// A packet of guest 1 that hands on this frame, under its second generation; its first byte is a P.
-fn whole_packet(alloc: Global, frame: FrameNo) -> Result<WirePacket, AllocError>
-    ensures long { IfOk result (λ packet. packet.length ≡ 4096) }
-    ensures whole { IfOk result (λ packet. length (hand_of packet).bytes ≡ 4096) }
-    ensures sender { IfOk result (λ packet. packet.cell.0 ≡ 0) }
-    ensures handed { IfOk result (λ packet. (packet_of packet).whole ≡ Some (record { frame = frame.0; generation = 2 })) }
+fn whole_packet(rt: &impl Abort, alloc: Global, frame: FrameNo) -> WirePacket
+    ensures long { result.length ≡ 4096 }
+    ensures whole { length (hand_of result).bytes ≡ 4096 }
+    ensures sender { result.cell.0 ≡ 0 }
+    ensures handed { (packet_of result).whole ≡ Some (record { frame = frame.0; generation = 2 }) }
 {
-    let letter = page_of(alloc, b'P')?;
-    let page = Arc::new(alloc, letter)?;
+    let letter = page_of(rt, alloc, b'P');
+    let Ok(page) = Arc::new(alloc, letter) else {
+        panic!(rt; "no memory is left");
+    };
     let frame = SharedFrame {
         number: frame,
         generation: 2,
         page,
     };
-    Ok(WirePacket {
+    WirePacket {
         from: GuestId(1),
         length: 4096,
         cell: CellId(0),
         body: Body::Whole(frame),
-    })
+    }
 }
 
 /// The cell of a node.
@@ -84,20 +86,14 @@ fn is_at_home(around: &Around, frame: FrameNo) -> bool
 }
 
 /// The guest, which has armed a page, takes a packet in hand that hands on this frame.
-fn take_packet<R: Abort>(
-    rt: &R,
-    alloc: Global,
-    course: &mut Course,
-    frame: FrameNo,
-) -> Result<(), AllocError>
+fn take_packet<R: Abort>(rt: &R, alloc: Global, course: &mut Course, frame: FrameNo)
     requires sound { IsSound course.old }
     requires goes_on { GoesOn (state_of course.old) }
     ensures { IsSound course.new }
 {
     assert!(rt; course.armed().is_some() && course.hand.is_none());
     assert!(rt; is_within(&course.around, frame) && is_at_home(&course.around, frame));
-    course.take_in_hand(whole_packet(alloc, frame)?);
-    Ok(())
+    course.take_in_hand(whole_packet(rt, alloc, frame));
 }
 
 /// What became of the packet in hand.
@@ -115,7 +111,7 @@ enum Came {
 }
 
 /// The packet in hand comes into the page that is armed, where nothing is in its way.
-fn come_freely(alloc: Global, course: &mut Course, page: Ppn) -> Result<Came, AllocError>
+fn come_freely(rt: &impl Abort, alloc: Global, course: &mut Course, page: Ppn) -> Came
     requires sound { IsSound course.old }
     requires goes_on { GoesOn (state_of course.old) }
     requires in_hand { course.old.hand ≢ None }
@@ -127,23 +123,23 @@ fn come_freely(alloc: Global, course: &mut Course, page: Ppn) -> Result<Came, Al
     requires place { vec_len course.old.received < vec_capacity course.old.received }
     ensures { IsSound course.new }
 {
-    match course.delivery()? {
+    match gave(rt, course.delivery()) {
         Some((target, delivery)) => {
             if !lies_alive(course, target.number) {
-                return Err(AllocError);
+                panic!(rt; "its frame lies on a dead cell");
             }
             course.begin_for_delivery(page, target, delivery);
-            Ok(Came::Begun(page))
+            Came::Begun(page)
         }
         None => {
-            course.receive(alloc)?;
-            Ok(Came::Copied)
+            gave(rt, course.receive(alloc));
+            Came::Copied
         }
     }
 }
 
 /// The page that is armed has a move: the packet in hand ends it where it is for that one.
-fn come_taken(alloc: Global, course: &mut Course, page: Ppn) -> Result<Came, AllocError>
+fn come_taken(rt: &impl Abort, alloc: Global, course: &mut Course, page: Ppn) -> Came
     requires sound { IsSound course.old }
     requires goes_on { GoesOn (state_of course.old) }
     requires in_hand { course.old.hand ≢ None }
@@ -154,29 +150,29 @@ fn come_taken(alloc: Global, course: &mut Course, page: Ppn) -> Result<Came, All
     ensures { IsSound course.new }
 {
     if !course.is_own_delivery(page) {
-        return Ok(Came::Waits(page));
+        return Came::Waits(page);
     }
-    let mut freed = course.end_delivery(alloc)?;
-    Ok(Came::Taken(freed.pop()))
+    let mut freed = gave(rt, course.end_delivery(alloc));
+    Came::Taken(freed.pop())
 }
 
 /// Lets the packet in hand come in.
-fn come<R: Abort>(rt: &R, alloc: Global, course: &mut Course) -> Result<Came, AllocError>
+fn come<R: Abort>(rt: &R, alloc: Global, course: &mut Course) -> Came
     requires sound { IsSound course.old }
     requires goes_on { GoesOn (state_of course.old) }
     ensures { IsSound course.new }
 {
-    course.reserve()?;
+    gave(rt, course.reserve());
     assert!(rt; course.hand.is_some() && course.lost_packet().is_none());
     let Some(armed) = course.armed() else {
         panic!(rt; "no page is armed");
     };
     match course.packet_hurdle() {
-        Hurdle::Free => come_freely(alloc, course, armed),
-        Hurdle::Needs(page, kind) => Ok(Came::Needs(page, kind)),
+        Hurdle::Free => come_freely(rt, alloc, course, armed),
+        Hurdle::Needs(page, kind) => Came::Needs(page, kind),
         Hurdle::Waits(page) => {
             assert!(rt; page.0 < course.pmap.len());
-            come_taken(alloc, course, page)
+            come_taken(rt, alloc, course, page)
         }
     }
 }
@@ -184,23 +180,22 @@ fn come<R: Abort>(rt: &R, alloc: Global, course: &mut Course) -> Result<Came, Al
 /// The armed page is taken shared with the frame that the packet hands on, once the processor has acknowledged that, and its own frame is a
 /// spare.
 #[test]
-fn an_armed_page_is_taken_shared_with_a_packet(rt: HostRuntime) -> Result<(), Fail> {
+fn an_armed_page_is_taken_shared_with_a_packet(rt: HostRuntime) {
     let alloc = rt.alloc();
-    let mut course = guest(alloc, ARMS_A_PAGE.as_slice())?;
-    try_turns(&rt, alloc, &mut course, &UP_TO_PAGE_1)?;
-    try_turns(&rt, alloc, &mut course, &[Did::Emulated])?;
+    let mut course = guest(&rt, alloc, ARMS_A_PAGE.as_slice());
+    try_turns(&rt, alloc, &mut course, &UP_TO_PAGE_1);
+    try_turns(&rt, alloc, &mut course, &[Did::Emulated]);
     let _ = ready(&rt, &course);
-    take_packet(&rt, alloc, &mut course, FrameNo(6))?;
+    take_packet(&rt, alloc, &mut course, FrameNo(6));
     let _ = ready(&rt, &course);
-    assert_eq!(rt; come(&rt, alloc, &mut course)?, Came::Begun(PAGE));
-    try_turns(&rt, alloc, &mut course, &[Did::Acknowledged(PAGE)])?;
+    assert!(rt; come(&rt, alloc, &mut course) == Came::Begun(PAGE));
+    try_turns(&rt, alloc, &mut course, &[Did::Acknowledged(PAGE)]);
     let _ = ready(&rt, &course);
-    assert_eq!(rt; come(&rt, alloc, &mut course)?, Came::Taken(None));
+    assert!(rt; come(&rt, alloc, &mut course) == Came::Taken(None));
     try_page(&rt, &course, PAGE, 6, true, 1);
-    assert_eq!(rt; course.received.len(), 1);
+    assert!(rt; course.received.len() == 1);
     assert!(rt; course.armed().is_none() && course.hand.is_none());
     let printed = [Did::Refilled, Did::Direct, Did::Emulated, Did::Emulated];
-    try_turns(&rt, alloc, &mut course, &printed)?;
+    try_turns(&rt, alloc, &mut course, &printed);
     try_end(&rt, &course, b"P");
-    Ok(())
 }

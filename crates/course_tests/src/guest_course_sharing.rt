@@ -1,6 +1,6 @@
 //! A guest whose pages are shared with others, turn by turn: taken shared for disk reads, given before a send, and the guest's own again by
 //! stores.
-ghost use Rattle.std.specs.Prelude.{◌≡◌, ◌<◌, ◌≤◌, [], ℕ, IfOk, length, slice_index_or};
+ghost use Rattle.std.specs.Prelude.{◌≡◌, ◌<◌, ◌≤◌, [], ℕ, length, slice_index_or};
 ghost use Rattle.std.specs.Arc.{arc_value};
 ghost use Rattle.cow_disk.specs.DiskView.{bytes_of};
 ghost use Rattle.guest_course.specs.BootCalls.{AreWhole};
@@ -10,13 +10,13 @@ ghost use Rattle.guest_course.specs.StepCalls.{MayStep};
 
 use crate::guest_course_entries::{around, frame};
 use crate::guest_course_turns::{Did, PROCESSOR, Sent, cell_of, turn};
+use crate::telling::{gave, same};
 use base_words::{Blocks, FrameList, FrameNo, MoveKind, Page, Ppn, Sequence, VcpuId};
 use cow_disk::Disk;
 use guest_course::Course;
-use std::alloc::{AllocError, Global};
+use std::alloc::Global;
 use std::process::Abort;
 use std::sync::Arc;
-use std::test::Fail;
 
 /// A program at the start of memory: LUI 2, CFFF; ORI 2, 2, F000; LUI 3, C000; ORI 1, 0, 1; LBU 4, 1000(3); SW 1, 24(2); SW 1, 28(2);
 /// SW 1, 20(2); ORI 5, 0, 2; SW 5, 24(2); SW 1, 28(2); LBU 4, 1000(3); ADDIU 4, 4, 1; SB 4, 1000(3); LBU 4, 1000(3); SW 4, 0(2);
@@ -44,61 +44,64 @@ const SENDS_A_PAGE: [u8; 60] = [
 pub(crate) const PAGE: Ppn = Ppn(1);
 
 /// The frames 2, 5 and 4, the first one with a program.
-fn frames(alloc: Global, program: &[u8]) -> Result<FrameList, AllocError>
+fn frames(rt: &impl Abort, alloc: Global, program: &[u8]) -> FrameList
     requires { length program.now ≤ 4096 }
-    ensures count { IfOk result (λ frames. length frames ≡ 3) }
-    ensures whole { IfOk result AreWhole }
+    ensures count { length result ≡ 3 }
+    ensures whole { AreWhole result }
 {
-    let mut first = frame(alloc, 2)?;
+    let mut first = frame(rt, alloc, 2);
     first.page.fill_from(0, program);
     let mut frames = Sequence::new(alloc);
-    frames.push(first)?;
-    frames.push(frame(alloc, 5)?)?;
-    frames.push(frame(alloc, 4)?)?;
-    Ok(frames)
+    gave(rt, frames.push(first));
+    gave(rt, frames.push(frame(rt, alloc, 5)));
+    gave(rt, frames.push(frame(rt, alloc, 4)));
+    frames
 }
 
 /// A page with this first byte.
-pub(crate) fn page_of(alloc: Global, letter: u8) -> Result<Box<Page>, AllocError>
-    ensures { IfOk result (λ page. length page.value ≡ 4096) }
+pub(crate) fn page_of(rt: &impl Abort, alloc: Global, letter: u8) -> Box<Page>
+    ensures { length result.value ≡ 4096 }
 {
-    let mut page = Page::zeroed(alloc)?;
+    let mut page = gave(rt, Page::zeroed(alloc));
     page.set_byte(0, letter);
-    Ok(page)
+    page
 }
 
 /// A disk of two blocks, whose first bytes are G and K.
-fn blocks(alloc: Global) -> Result<Arc<Blocks>, AllocError>
-    ensures two { IfOk result (λ base. length (arc_value base) ≡ 2) }
-    ensures whole { IfOk result (λ base. (k : ℕ) → k < length (bytes_of (arc_value base)) → length (slice_index_or (bytes_of (arc_value base)) k []) ≡ 4096) }
+fn blocks(rt: &impl Abort, alloc: Global) -> Arc<Blocks>
+    ensures two { length (arc_value result) ≡ 2 }
+    ensures whole { (k : ℕ) → k < length (bytes_of (arc_value result)) → length (slice_index_or (bytes_of (arc_value result)) k []) ≡ 4096 }
 {
     let mut blocks = Sequence::new(alloc);
-    blocks.push(page_of(alloc, b'G')?)?;
-    blocks.push(page_of(alloc, b'K')?)?;
-    Ok(Arc::new(alloc, blocks)?)
+    gave(rt, blocks.push(page_of(rt, alloc, b'G')));
+    gave(rt, blocks.push(page_of(rt, alloc, b'K')));
+    gave(rt, Arc::new(alloc, blocks))
 }
 
 /// A guest of three pages with one virtual processor and this program, at its start, and loaded; with the two blocks.
-pub(crate) fn guest(alloc: Global, program: &[u8]) -> Result<Course, AllocError>
+pub(crate) fn guest(rt: &impl Abort, alloc: Global, program: &[u8]) -> Course
     requires { length program.now ≤ 4096 }
-    ensures { IfOk result IsSound }
+    ensures { IsSound result }
 {
-    let frames = frames(alloc, program)?;
-    let disk = Disk::new(alloc, Some(blocks(alloc)?));
-    let mut course = Course::boot(
-        alloc,
-        around(alloc)?,
-        0xC000_0000,
-        1,
-        frames,
-        disk,
-        &Sequence::new(alloc),
-    )?;
+    let frames = frames(rt, alloc, program);
+    let disk = Disk::new(alloc, Some(blocks(rt, alloc)));
+    let mut course = gave(
+        rt,
+        Course::boot(
+            alloc,
+            around(rt, alloc),
+            0xC000_0000,
+            1,
+            frames,
+            disk,
+            &Sequence::new(alloc),
+        ),
+    );
     if course.is_dead(cell_of(&course, PROCESSOR)) {
-        return Err(AllocError);
+        panic!(rt; "its cell is dead");
     }
     course.load(PROCESSOR, VcpuId(0));
-    Ok(course)
+    course
 }
 
 /// The virtual processor that may make an entry.
@@ -115,20 +118,14 @@ pub(crate) fn ready<R: Abort>(rt: &R, course: &Course) -> VcpuId
 }
 
 /// Makes a turn for each of these answers.
-pub(crate) fn try_turns<R: Abort>(
-    rt: &R,
-    alloc: Global,
-    course: &mut Course,
-    answers: &[Did],
-) -> Result<(), AllocError>
+pub(crate) fn try_turns<R: Abort>(rt: &R, alloc: Global, course: &mut Course, answers: &[Did])
     requires { IsSound course.old }
     ensures { IsSound course.new }
 {
     for answer in answers {
         let vcpu = ready(rt, course);
-        assert_eq!(rt; turn(alloc, course, vcpu)?, *answer, "in its place");
+        assert!(rt; turn(rt, alloc, course, vcpu) == *answer, "in its place");
     }
-    Ok(())
 }
 
 /// A page's master, whether others may hold it too, and how many spares there are.
@@ -141,9 +138,14 @@ pub(crate) fn try_page<R: Abort>(
     spares: u32,
 ) {
     assert!(rt; page.0 < course.pmap.len());
-    assert_eq!(rt; course.pmap.master(page), FrameNo(master), "of {page:?}");
-    assert_eq!(rt; course.pmap.is_shared(page), shared, "{page:?}");
-    assert_eq!(rt; course.pmap.spares(), spares, "beside {page:?}");
+    same(
+        rt,
+        course.pmap.master(page),
+        FrameNo(master),
+        ("master of", page),
+    );
+    same(rt, course.pmap.is_shared(page), shared, page);
+    same(rt, course.pmap.spares(), spares, ("spares beside", page));
 }
 
 /// The guest has halted, and printed this.
@@ -175,18 +177,18 @@ fn stored(freed: u32) -> [Did; 5] {
 }
 
 /// Reads the two blocks.
-fn read_blocks<R: Abort>(rt: &R, alloc: Global, course: &mut Course) -> Result<(), AllocError>
+fn read_blocks<R: Abort>(rt: &R, alloc: Global, course: &mut Course)
     requires { IsSound course.old }
     ensures { IsSound course.new }
 {
-    try_turns(rt, alloc, course, &UP_TO_PAGE_1)?;
+    try_turns(rt, alloc, course, &UP_TO_PAGE_1);
     let first = [
         Did::Emulated,
         Did::Begun(PAGE, MoveKind::TakeShared),
         Did::Acknowledged(PAGE),
         Did::Took(PAGE, None),
     ];
-    try_turns(rt, alloc, course, &first)?;
+    try_turns(rt, alloc, course, &first);
     try_page(rt, course, PAGE, 6, true, 1);
     let second = [
         Did::Emulated,
@@ -195,21 +197,20 @@ fn read_blocks<R: Abort>(rt: &R, alloc: Global, course: &mut Course) -> Result<(
         Did::Begun(Ppn(2), MoveKind::TakeShared),
         Did::Took(Ppn(2), None),
     ];
-    try_turns(rt, alloc, course, &second)?;
+    try_turns(rt, alloc, course, &second);
     try_page(rt, course, Ppn(2), 7, true, 2);
-    Ok(())
 }
 
 /// Both pages are taken shared for their reads, the first once the processor has acknowledged that, and their own frames are spares. The
 /// store to the first page takes the spare that was added last, which was the other page's frame.
 #[test]
-fn pages_that_were_read_are_shared_until_a_store(rt: HostRuntime) -> Result<(), Fail> {
+fn pages_that_were_read_are_shared_until_a_store(rt: HostRuntime) {
     let alloc = rt.alloc();
-    let mut course = guest(alloc, READS_AND_STORES.as_slice())?;
-    read_blocks(&rt, alloc, &mut course)?;
+    let mut course = guest(&rt, alloc, READS_AND_STORES.as_slice());
+    read_blocks(&rt, alloc, &mut course);
     let loaded = [Did::Refilled, Did::Direct, Did::Direct];
-    try_turns(&rt, alloc, &mut course, &loaded)?;
-    try_turns(&rt, alloc, &mut course, &stored(6))?;
+    try_turns(&rt, alloc, &mut course, &loaded);
+    try_turns(&rt, alloc, &mut course, &stored(6));
     try_page(&rt, &course, PAGE, 4, false, 1);
     try_page(&rt, &course, Ppn(2), 7, true, 1);
     let printed = [
@@ -220,17 +221,16 @@ fn pages_that_were_read_are_shared_until_a_store(rt: HostRuntime) -> Result<(), 
         Did::Emulated,
         Did::Emulated,
     ];
-    try_turns(&rt, alloc, &mut course, &printed)?;
+    try_turns(&rt, alloc, &mut course, &printed);
     try_end(&rt, &course, b"HK");
-    Ok(())
 }
 
 /// The page is given before it is sent whole to a guest that is at home on the same cell, and the packet hands on its frame. The store after it
 /// goes to the spare that came with that move.
 #[test]
-fn a_page_is_given_before_it_is_sent(rt: HostRuntime) -> Result<(), Fail> {
+fn a_page_is_given_before_it_is_sent(rt: HostRuntime) {
     let alloc = rt.alloc();
-    let mut course = guest(alloc, SENDS_A_PAGE.as_slice())?;
+    let mut course = guest(&rt, alloc, SENDS_A_PAGE.as_slice());
     let up_to_the_send = [
         Did::Refilled,
         Did::Direct,
@@ -244,24 +244,23 @@ fn a_page_is_given_before_it_is_sent(rt: HostRuntime) -> Result<(), Fail> {
         Did::Direct,
         Did::Emulated,
     ];
-    try_turns(&rt, alloc, &mut course, &up_to_the_send)?;
+    try_turns(&rt, alloc, &mut course, &up_to_the_send);
     let given = [
         Did::Begun(PAGE, MoveKind::GiveShared),
         Did::Acknowledged(PAGE),
         Did::Finished(PAGE, None),
     ];
-    try_turns(&rt, alloc, &mut course, &given)?;
+    try_turns(&rt, alloc, &mut course, &given);
     try_page(&rt, &course, PAGE, 5, true, 1);
     let sent = Did::Sent(Sent {
         frame: Some(FrameNo(5)),
         length: 4096,
         first: b'P',
     });
-    try_turns(&rt, alloc, &mut course, &[sent, Did::Direct, Did::Refilled])?;
-    try_turns(&rt, alloc, &mut course, &stored(5))?;
+    try_turns(&rt, alloc, &mut course, &[sent, Did::Direct, Did::Refilled]);
+    try_turns(&rt, alloc, &mut course, &stored(5));
     try_page(&rt, &course, PAGE, 3, false, 0);
     let printed = [Did::Direct, Did::Emulated, Did::Emulated];
-    try_turns(&rt, alloc, &mut course, &printed)?;
+    try_turns(&rt, alloc, &mut course, &printed);
     try_end(&rt, &course, b"Q");
-    Ok(())
 }

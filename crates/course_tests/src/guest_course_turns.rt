@@ -1,6 +1,6 @@
 //! Turns of a guest on processor 0, for the tests: what is to be done for moves of its pages, and the entries between. A page is shared
 //! wherever it can be: the copy of block n lies in frame 6 + n, and frame 3 is the spare for a page that is given.
-ghost use Rattle.std.specs.Prelude.{◌≡◌, ◌<◌, IfOk, Some, length, false};
+ghost use Rattle.std.specs.Prelude.{◌≡◌, ◌<◌, Some, length, false};
 ghost use Rattle.std.specs.Bool.{OnTrue};
 ghost use Rattle.std.specs.Vec.{vec_len, vec_capacity};
 ghost use Rattle.private_machine.specs.Backing.{Copy};
@@ -16,13 +16,15 @@ ghost use Rattle.guest_course.specs.StepCalls.{MayStep};
 ghost use Rattle.course_tests.specs.Lacking.{LacksFrame};
 ghost use Rattle.isolation_law.specs.Surroundings.{cell_of_frame, cell_of_processor};
 
+use crate::telling::gave;
 use base_words::{
     CellId, Frame, FrameNo, HwStep, MoveKind, NodeId, Page, Ppn, ProcId, SharedFrame, VcpuId,
 };
 use guest_course::{Course, Entry, Errand, Hurdle, Outgoing, acts_are_at_hand};
 use guest_devs::DevAct;
 use pmap_table::Pmap;
-use std::alloc::{AllocError, Global};
+use std::alloc::Global;
+use std::process::Abort;
 use std::sync::Arc;
 use wire_queue::Body;
 
@@ -67,20 +69,20 @@ pub(crate) enum Did {
 }
 
 /// A frame with a copy of a block, as the disk was given.
-fn copy_of_block(alloc: Global, course: &Course, block: u32) -> Result<SharedFrame, AllocError>
+fn copy_of_block(rt: &impl Abort, alloc: Global, course: &Course, block: u32) -> SharedFrame
     requires { block < length course.now.disk }
-    ensures { IfOk result (λ frame. (shared_copy_of frame).bytes ≡ (block_of (state_of course.now) block).given) }
+    ensures { (shared_copy_of result).bytes ≡ (block_of (state_of course.now) block).given }
 {
-    let mut page = Page::zeroed(alloc)?;
+    let mut page = gave(rt, Page::zeroed(alloc));
     match course.disk.base_block(block) {
         Some(given) => page.copy_from(given),
         None => unreachable!(),
     }
-    Ok(SharedFrame {
+    SharedFrame {
         number: FrameNo(FIRST_COPY.saturating_add(block)),
         generation: 1,
-        page: Arc::new(alloc, page)?,
-    })
+        page: gave(rt, Arc::new(alloc, page)),
+    }
 }
 
 /// Whether a page surely has nothing to do with a frame: another one is its master, and it has no replicas and no move.
@@ -137,8 +139,8 @@ fn on_wire(out: &Outgoing) -> Sent {
     }
 }
 
-/// Makes the rest of a step, with what it sends. An error is want of memory, or a page outside the machine.
-fn make(alloc: Global, course: &mut Course, vcpu: VcpuId, act: DevAct) -> Result<Did, AllocError>
+/// Makes the rest of a step, with what it sends.
+fn make(rt: &impl Abort, alloc: Global, course: &mut Course, vcpu: VcpuId, act: DevAct) -> Did
     requires sound { IsSound course.old }
     requires left { LeavesAct (state_of course.old) 0 vcpu.0 act (state_of course.old) }
     requires free { ActIsFree (state_of course.old) vcpu.0 act }
@@ -147,14 +149,14 @@ fn make(alloc: Global, course: &mut Course, vcpu: VcpuId, act: DevAct) -> Result
     ensures { IsSound course.new }
 {
     if !are_within(course) || course.around.site.homes.len() > 256 {
-        return Err(AllocError);
+        panic!(rt; "a page lies outside the machine");
     }
-    let out = course.outgoing(alloc, vcpu, act)?;
-    course.carry_out(alloc, vcpu, act)?;
-    Ok(match out {
+    let out = gave(rt, course.outgoing(alloc, vcpu, act));
+    gave(rt, course.carry_out(alloc, vcpu, act));
+    match out {
         Some(out) => Did::Sent(on_wire(&out)),
         None => Did::Emulated,
-    })
+    }
 }
 
 /// The cell of a processor.
@@ -182,15 +184,15 @@ pub(crate) fn lies_alive(course: &Course, frame: FrameNo) -> bool
     }
 }
 
-/// Begins to give the page from which an act sends, with the spare for it. An error is want of memory, or a guest that holds other frames
-/// than its pages'.
+/// Begins to give the page from which an act sends, with the spare for it.
 fn give(
+    rt: &impl Abort,
     alloc: Global,
     course: &mut Course,
     vcpu: VcpuId,
     act: DevAct,
     page: Ppn,
-) -> Result<Did, AllocError>
+) -> Did
     requires sound { IsSound course.old }
     requires left { LeavesAct (state_of course.old) 0 vcpu.0 act (state_of course.old) }
     requires free { ActIsFree (state_of course.old) vcpu.0 act }
@@ -200,24 +202,25 @@ fn give(
     ensures { IsSound course.new }
 {
     if !is_foreign(course, SPARE) || !lies_alive(course, SPARE) {
-        return Err(AllocError);
+        panic!(rt; "the spare isn't free");
     }
     let spare = Frame {
         number: SPARE,
         generation: 1,
-        page: Page::zeroed(alloc)?,
+        page: gave(rt, Page::zeroed(alloc)),
     };
     course.begin_to_give(PROCESSOR, vcpu, act, page, spare);
-    Ok(Did::Begun(page, MoveKind::GiveShared))
+    Did::Begun(page, MoveKind::GiveShared)
 }
 
 /// Does what an act needs that no page is in the way of: its page is shared, or else the step is made.
 fn share_or_make(
+    rt: &impl Abort,
     alloc: Global,
     course: &mut Course,
     vcpu: VcpuId,
     act: DevAct,
-) -> Result<Did, AllocError>
+) -> Did
     requires sound { IsSound course.old }
     requires left { LeavesAct (state_of course.old) 0 vcpu.0 act (state_of course.old) }
     requires free { ActIsFree (state_of course.old) vcpu.0 act }
@@ -227,21 +230,21 @@ fn share_or_make(
     ensures { IsSound course.new }
 {
     if let Some((block, page)) = course.to_share(vcpu, act) {
-        let frame = copy_of_block(alloc, course, block)?;
+        let frame = copy_of_block(rt, alloc, course, block);
         if !lies_alive(course, frame.number) {
-            return Err(AllocError);
+            panic!(rt; "its frame lies on a dead cell");
         }
         course.begin_for_block(PROCESSOR, vcpu, act, block, page, frame);
-        return Ok(Did::Begun(page, MoveKind::TakeShared));
+        return Did::Begun(page, MoveKind::TakeShared);
     }
     match course.to_give(vcpu, act) {
-        Some(page) => give(alloc, course, vcpu, act, page),
-        None => make(alloc, course, vcpu, act),
+        Some(page) => give(rt, alloc, course, vcpu, act, page),
+        None => make(rt, alloc, course, vcpu, act),
     }
 }
 
 /// Does what an act needs that was left.
-fn do_act(alloc: Global, course: &mut Course, vcpu: VcpuId, act: DevAct) -> Result<Did, AllocError>
+fn do_act(rt: &impl Abort, alloc: Global, course: &mut Course, vcpu: VcpuId, act: DevAct) -> Did
     requires sound { IsSound course.old }
     requires left { LeavesAct (state_of course.old) 0 vcpu.0 act (state_of course.old) }
     requires send_room { 0 < course.old.devs.send_room }
@@ -250,24 +253,24 @@ fn do_act(alloc: Global, course: &mut Course, vcpu: VcpuId, act: DevAct) -> Resu
     ensures { IsSound course.new }
 {
     match course.act_hurdle(vcpu, act) {
-        Hurdle::Free => share_or_make(alloc, course, vcpu, act),
+        Hurdle::Free => share_or_make(rt, alloc, course, vcpu, act),
         Hurdle::Needs(page, kind) => {
             course.begin_for_read(PROCESSOR, vcpu, act, page, kind);
-            Ok(Did::Begun(page, kind))
+            Did::Begun(page, kind)
         }
         Hurdle::Waits(page) => {
             if course.is_own_read(vcpu, act, page) {
                 let mut freed = course.end_read(vcpu, act, page);
-                Ok(Did::Took(page, freed.pop()))
+                Did::Took(page, freed.pop())
             } else {
-                Ok(Did::Waits(page))
+                Did::Waits(page)
             }
         }
     }
 }
 
 /// The next entry of the virtual processor, or what it needs first.
-fn enter(alloc: Global, course: &mut Course, vcpu: VcpuId) -> Result<Did, AllocError>
+fn enter(rt: &impl Abort, alloc: Global, course: &mut Course, vcpu: VcpuId) -> Did
     requires sound { IsSound course.old }
     requires may { MayStep (state_of course.old) 0 vcpu.0 }
     requires print_room { 0 < course.old.devs.print_room }
@@ -277,37 +280,37 @@ fn enter(alloc: Global, course: &mut Course, vcpu: VcpuId) -> Result<Did, AllocE
     ensures { IsSound course.new }
 {
     match course.step(PROCESSOR, vcpu) {
-        HwStep::Direct(_) => Ok(Did::Direct),
+        HwStep::Direct(_) => Did::Direct,
         HwStep::Trap(cause) => match course.serve(PROCESSOR, vcpu, cause) {
-            Entry::Refill => Ok(Did::Refilled),
-            Entry::Emulate => Ok(Did::Emulated),
-            Entry::Left(act) => do_act(alloc, course, vcpu, act),
-            Entry::Waits(page) => Ok(Did::Waits(page)),
+            Entry::Refill => Did::Refilled,
+            Entry::Emulate => Did::Emulated,
+            Entry::Left(act) => do_act(rt, alloc, course, vcpu, act),
+            Entry::Waits(page) => Did::Waits(page),
             Entry::Needs(page, kind) => {
                 course.begin_needed(PROCESSOR, vcpu, page, kind);
-                Ok(Did::Begun(page, kind))
+                Did::Begun(page, kind)
             }
         },
     }
 }
 
 /// A turn of the virtual processor: what is to be done for moves first, and else its next entry.
-pub(crate) fn turn(alloc: Global, course: &mut Course, vcpu: VcpuId) -> Result<Did, AllocError>
+pub(crate) fn turn(rt: &impl Abort, alloc: Global, course: &mut Course, vcpu: VcpuId) -> Did
     requires sound { IsSound course.old }
     requires processor { 0 < length course.old.places.items }
     requires may { MayStep (state_of course.old) 0 vcpu.0 }
     ensures { IsSound course.new }
 {
-    course.reserve()?;
+    gave(rt, course.reserve());
     match course.errand(PROCESSOR) {
         Errand::Acknowledge(page) => {
             course.acknowledge(PROCESSOR, page);
-            Ok(Did::Acknowledged(page))
+            Did::Acknowledged(page)
         }
         Errand::Finish(page) => {
             let mut freed = course.finish_move(page);
-            Ok(Did::Finished(page, freed.pop()))
+            Did::Finished(page, freed.pop())
         }
-        Errand::Nothing => enter(alloc, course, vcpu),
+        Errand::Nothing => enter(rt, alloc, course, vcpu),
     }
 }

@@ -13,3 +13,5 @@ mod guest_course_turns;
 mod page_moves_kinds;
 #[cfg(test)]
 mod page_moves_rig;
+#[cfg(test)]
+mod telling;

@@ -3,117 +3,111 @@ use crate::page_moves_rig::{
     acknowledges, begins, breaks, collapses, finishes, four_nodes, frame, gives_up, is_on,
     is_refused, is_taken, lets_go, maps, shared, stores, table, takes, tells,
 };
+use crate::telling::{gave, same};
 use base_words::{FrameNo, MoveKind, NodeId, Ppn, ProcId};
 use page_moves::{first_ready, first_waiting};
 use pmap_table::Pmap;
 use shootdown::tokens;
-use std::alloc::{AllocError, Global};
+use std::alloc::Global;
 use std::process::Abort;
-use std::test::Fail;
 
 /// A table of one page with its master on frame 5 and replicas on frames 20 and 40.
-fn replicated(rt: &impl Abort, alloc: Global) -> Result<Pmap, AllocError> {
-    let mut pmap = table(rt, alloc)?;
+fn replicated(rt: &impl Abort, alloc: Global) -> Pmap {
+    let mut pmap = table(rt, alloc);
     for number in [20, 40] {
-        begins(rt, &mut pmap, MoveKind::Replicate, frame(alloc, number)?)?;
+        begins(rt, &mut pmap, MoveKind::Replicate, frame(rt, alloc, number));
         finishes(rt, &mut pmap, &[]);
     }
-    Ok(pmap)
+    pmap
 }
 
 #[test]
-fn a_store_before_the_acknowledgement_moves_with_the_page(rt: HostRuntime) -> Result<(), Fail> {
+fn a_store_before_the_acknowledgement_moves_with_the_page(rt: HostRuntime) {
     let alloc = rt.alloc();
-    let (tokens, _seats) = tokens(alloc, 2, 1)?;
+    let (tokens, _seats) = gave(&rt, tokens(alloc, 2, 1));
     let mut tokens = tokens.into_vec();
-    let mut pmap = table(&rt, alloc)?;
+    let mut pmap = table(&rt, alloc);
     maps(&rt, &mut pmap, 1);
-    begins(&rt, &mut pmap, MoveKind::Migrate, frame(alloc, 30)?)?;
-    assert_eq!(rt; first_waiting(&pmap, ProcId(0)), None);
-    assert_eq!(rt; first_ready(&pmap), None);
+    begins(&rt, &mut pmap, MoveKind::Migrate, frame(&rt, alloc, 30));
+    assert!(rt; first_waiting(&pmap, ProcId(0)).is_none());
+    assert!(rt; first_ready(&pmap).is_none());
     stores(&rt, &mut pmap, 0x5A);
     assert!(rt; tokens.len() == 2);
     acknowledges(&rt, &mut pmap, &mut tokens[1]);
     finishes(&rt, &mut pmap, &[5]);
     is_on(&rt, &pmap, 30, [5, 0x5A], 0, 0);
-    Ok(())
 }
 
 #[test]
-fn each_kind_leaves_its_frames(rt: HostRuntime) -> Result<(), Fail> {
+fn each_kind_leaves_its_frames(rt: HostRuntime) {
     let alloc = rt.alloc();
-    let mut pmap = replicated(&rt, alloc)?;
+    let mut pmap = replicated(&rt, alloc);
     is_on(&rt, &pmap, 5, [5, 0], 2, 0);
-    collapses(&rt, &mut pmap)?;
+    collapses(&rt, &mut pmap);
     finishes(&rt, &mut pmap, &[40, 20]);
-    is_taken(&rt, &mut pmap, shared(alloc, 60)?)?;
+    is_taken(&rt, &mut pmap, shared(&rt, alloc, 60));
     takes(&rt, &mut pmap, &[]);
     is_on(&rt, &pmap, 60, [60, 0], 0, 1); // the guest's own frame is a spare
-    breaks(&rt, &mut pmap)?;
+    breaks(&rt, &mut pmap);
     finishes(&rt, &mut pmap, &[60]);
     is_on(&rt, &pmap, 5, [60, 0], 0, 0);
-    begins(&rt, &mut pmap, MoveKind::GiveShared, frame(alloc, 70)?)?;
+    begins(&rt, &mut pmap, MoveKind::GiveShared, frame(&rt, alloc, 70));
     finishes(&rt, &mut pmap, &[]);
     is_on(&rt, &pmap, 5, [60, 0], 0, 1); // with frame 70 as the spare
-    is_taken(&rt, &mut pmap, shared(alloc, 61)?)?;
+    is_taken(&rt, &mut pmap, shared(&rt, alloc, 61));
     lets_go(&rt, &mut pmap, &[61]);
     is_on(&rt, &pmap, 5, [60, 0], 0, 1);
     gives_up(&rt, &mut pmap, &[70, 5]);
-    Ok(())
 }
 
 #[test]
-fn moves_are_told_and_given_up(rt: HostRuntime) -> Result<(), Fail> {
+fn moves_are_told_and_given_up(rt: HostRuntime) {
     let alloc = rt.alloc();
-    let mut pmap = table(&rt, alloc)?;
+    let mut pmap = table(&rt, alloc);
     maps(&rt, &mut pmap, 3);
-    begins(&rt, &mut pmap, MoveKind::Migrate, frame(alloc, 30)?)?;
+    begins(&rt, &mut pmap, MoveKind::Migrate, frame(&rt, alloc, 30));
     tells(&rt, &mut pmap, MoveKind::Migrate);
     gives_up(&rt, &mut pmap, &[30, 5]);
     for kind in [MoveKind::Replicate, MoveKind::GiveShared] {
-        let mut pmap = replicated(&rt, alloc)?;
+        let mut pmap = replicated(&rt, alloc);
         maps(&rt, &mut pmap, 3);
-        begins(&rt, &mut pmap, kind, frame(alloc, 30)?)?;
+        begins(&rt, &mut pmap, kind, frame(&rt, alloc, 30));
         tells(&rt, &mut pmap, kind);
         gives_up(&rt, &mut pmap, &[30, 40, 20, 5]);
     }
-    let mut pmap = replicated(&rt, alloc)?;
+    let mut pmap = replicated(&rt, alloc);
     maps(&rt, &mut pmap, 3);
-    collapses(&rt, &mut pmap)?;
+    collapses(&rt, &mut pmap);
     tells(&rt, &mut pmap, MoveKind::Collapse);
     gives_up(&rt, &mut pmap, &[40, 20, 5]);
-    let mut pmap = replicated(&rt, alloc)?;
+    let mut pmap = replicated(&rt, alloc);
     maps(&rt, &mut pmap, 3);
-    is_taken(&rt, &mut pmap, shared(alloc, 30)?)?;
+    is_taken(&rt, &mut pmap, shared(&rt, alloc, 30));
     tells(&rt, &mut pmap, MoveKind::TakeShared);
     gives_up(&rt, &mut pmap, &[30, 40, 20, 5]);
-    Ok(())
 }
 
 #[test]
-fn a_node_reaches_the_nearest_frame(rt: HostRuntime) -> Result<(), Fail> {
+fn a_node_reaches_the_nearest_frame(rt: HostRuntime) {
     let alloc = rt.alloc();
-    let pmap = replicated(&rt, alloc)?;
-    let shape = four_nodes(alloc)?;
+    let pmap = replicated(&rt, alloc);
+    let shape = four_nodes(&rt, alloc);
     for (node, number) in [(0, 5), (1, 20), (2, 40), (3, 5)] {
         assert!(rt; 0 < pmap.len());
         let frame = pmap.nearest(Ppn(0), NodeId(node), &shape);
-        assert_eq!(rt; frame, FrameNo(number), "node {node}");
-        assert_eq!(rt;
-            pmap.word_of(Ppn(0), frame, 0),
-            5,
+        same(&rt, frame, FrameNo(number), ("node", node));
+        assert!(rt;
+            pmap.word_of(Ppn(0), frame, 0) == 5,
             "each replica is a copy of the page"
         );
     }
-    Ok(())
 }
 
 #[test]
-fn a_page_that_moves_takes_no_other_move(rt: HostRuntime) -> Result<(), Fail> {
+fn a_page_that_moves_takes_no_other_move(rt: HostRuntime) {
     let alloc = rt.alloc();
-    let mut pmap = table(&rt, alloc)?;
+    let mut pmap = table(&rt, alloc);
     maps(&rt, &mut pmap, 31);
-    begins(&rt, &mut pmap, MoveKind::Replicate, frame(alloc, 20)?)?;
-    is_refused(&rt, &mut pmap, frame(alloc, 40)?, 31)?;
-    Ok(())
+    begins(&rt, &mut pmap, MoveKind::Replicate, frame(&rt, alloc, 20));
+    is_refused(&rt, &mut pmap, frame(&rt, alloc, 40), 31);
 }

@@ -1,9 +1,10 @@
 //! Calls of a description with changes, by their statuses and outputs.
+use crate::telling::{must, same};
 use guest_core::RunRecord;
 use monitor_run::disco;
 use outside_io::{CallList, FileList, FreeGate, MemShelf, MemSink};
 use run_cases::{PRINTS_A, held, words_of};
-use std::alloc::{AllocError, Global};
+use std::alloc::Global;
 use std::process::Abort;
 use std::sync::Wait;
 use std::thread::Threads;
@@ -88,48 +89,63 @@ pub(crate) fn refused<'a>(changes: &'a [Change<'a>], status: u8, output: &'a str
 }
 
 /// A shelf with the description, the image and the disk.
-fn shelf_of(alloc: Global, text: &str, case: &Case) -> Result<MemShelf, AllocError> {
+fn shelf_of(rt: &impl Abort, alloc: Global, text: &str, case: &Case) -> MemShelf {
     let mut files = FileList::new(alloc);
-    files.push(held(alloc, "m", text.as_bytes().to_vec(alloc)?)?)?;
-    files.push(held(alloc, "a.raw", case.image.to_vec(alloc)?)?)?;
-    files.push(held(alloc, "d.img", case.disk.to_vec(alloc)?)?)?;
-    let fails = CallList::from_vec(case.shelf_fails.to_vec(alloc)?);
-    Ok(MemShelf::new(alloc, files, fails))
+    must(
+        rt,
+        files.push(must(
+            rt,
+            held(alloc, "m", must(rt, text.as_bytes().to_vec(alloc))),
+        )),
+    );
+    must(
+        rt,
+        files.push(must(rt, held(alloc, "a.raw", must(rt, case.image.to_vec(alloc))))),
+    );
+    must(
+        rt,
+        files.push(must(rt, held(alloc, "d.img", must(rt, case.disk.to_vec(alloc))))),
+    );
+    let fails = CallList::from_vec(must(rt, case.shelf_fails.to_vec(alloc)));
+    MemShelf::new(alloc, files, fails)
 }
 
 /// Makes the call of a case, and compares status, output and record.
-pub(crate) fn try_case<R: Abort + Threads + Wait + Sync>(
-    rt: &R,
-    alloc: Global,
-    case: &Case,
-) -> Result<(), AllocError> {
-    let mut text = String::from_str(alloc, P1)?;
+pub(crate) fn try_case<R: Abort + Threads + Wait + Sync>(rt: &R, alloc: Global, case: &Case) {
+    let mut text = must(rt, String::from_str(alloc, P1));
     for (old, new) in case.changes {
-        text = text.replace(alloc, *old, *new)?;
+        text = must(rt, text.replace(alloc, *old, *new));
     }
-    let mut shelf = shelf_of(alloc, text.as_str(), case)?;
-    let mut sink = MemSink::new(alloc, CallList::from_vec(case.sink_fails.to_vec(alloc)?));
-    let words = words_of(alloc, &[case.option, "m"])?;
+    let mut shelf = shelf_of(rt, alloc, text.as_str(), case);
+    let mut sink = MemSink::new(
+        alloc,
+        CallList::from_vec(must(rt, case.sink_fails.to_vec(alloc))),
+    );
+    let words = must(rt, words_of(alloc, &[case.option, "m"]));
     let mut out = RunRecord::empty(alloc);
     let status = disco(
         rt, alloc, &words, &mut shelf, &mut sink, &FreeGate, &mut out,
     );
-    assert_eq!(rt; status, case.status, "status of {text}");
-    assert_eq!(rt; sink.bytes(), case.output.as_bytes(), "output of {text}");
-    assert_eq!(rt; out.guests.len(), case.guests, "record of {text}");
-    Ok(())
+    same(rt, status, case.status, ("status of", text.as_str()));
+    same(
+        rt,
+        sink.bytes(),
+        case.output.as_bytes(),
+        ("output of", text.as_str()),
+    );
+    same(
+        rt,
+        out.guests.len(),
+        case.guests,
+        ("record of", text.as_str()),
+    );
 }
 
 /// Makes the calls of some cases.
-pub(crate) fn try_all<R: Abort + Threads + Wait + Sync>(
-    rt: &R,
-    alloc: Global,
-    cases: &[Case],
-) -> Result<(), AllocError> {
+pub(crate) fn try_all<R: Abort + Threads + Wait + Sync>(rt: &R, alloc: Global, cases: &[Case]) {
     for case in cases {
-        try_case(rt, alloc, case)?;
+        try_case(rt, alloc, case);
     }
-    Ok(())
 }
 
 /// A further guest of one page, before the other, which becomes guest 1.

@@ -5,10 +5,9 @@ use crate::cases::{
     SECOND_GUEST, TWO_GUESTS, TWO_VCPUS, WITH_SUMS, WRITES_A_BLOCK, machine, private, refused,
     try_all,
 };
-use std::test::Fail;
 
 #[test]
-fn guests_run_alone(rt: HostRuntime) -> Result<(), Fail> {
+fn guests_run_alone(rt: HostRuntime) {
     let cases = [
         private(),
         Case {
@@ -67,11 +66,11 @@ fn guests_run_alone(rt: HostRuntime) -> Result<(), Fail> {
             ..private()
         },
     ];
-    Ok(try_all(&rt, rt.alloc(), &cases)?)
+    try_all(&rt, rt.alloc(), &cases)
 }
 
 #[test]
-fn guests_run_under_the_monitor(rt: HostRuntime) -> Result<(), Fail> {
+fn guests_run_under_the_monitor(rt: HostRuntime) {
     let cases = [
         machine(),
         Case {
@@ -103,13 +102,13 @@ fn guests_run_under_the_monitor(rt: HostRuntime) -> Result<(), Fail> {
             ..machine()
         },
     ];
-    Ok(try_all(&rt, rt.alloc(), &cases)?)
+    try_all(&rt, rt.alloc(), &cases)
 }
 
 /// Two nodes of 4 frames in cells of their own: the guest's own cell gives 4, and the other one lends 2. On two nodes of one cell no
 /// frame takes a loan. Guests that are short are refused with what they need and what they have.
 #[test]
-fn guests_over_nodes_and_cells(rt: HostRuntime) -> Result<(), Fail> {
+fn guests_over_nodes_and_cells(rt: HostRuntime) {
     let cases = [
         Case {
             changes: &[CELLS, ("pages = 16", "pages = 6")],
@@ -151,12 +150,12 @@ fn guests_over_nodes_and_cells(rt: HostRuntime) -> Result<(), Fail> {
             "fault admission guest 0 needs 33 has 32\n",
         ),
     ];
-    Ok(try_all(&rt, rt.alloc(), &cases)?)
+    try_all(&rt, rt.alloc(), &cases)
 }
 
 /// A disk's read into a page is no refill; each slice of a guest refills anew. Guests that name one file see their own writes only.
 #[test]
-fn guests_with_disks_under_the_monitor(rt: HostRuntime) -> Result<(), Fail> {
+fn guests_with_disks_under_the_monitor(rt: HostRuntime) {
     let cases = [
         Case {
             changes: &[DISK],
@@ -183,5 +182,5 @@ fn guests_with_disks_under_the_monitor(rt: HostRuntime) -> Result<(), Fail> {
             ..machine()
         },
     ];
-    Ok(try_all(&rt, rt.alloc(), &cases)?)
+    try_all(&rt, rt.alloc(), &cases)
 }

@@ -3,15 +3,15 @@ use crate::cases::{
     Case, Change, DISK, FIFTEEN_STEPS, KEEPS_ONE, MOVE_AND_FAILURE, READS_A_BLOCK, machine,
     private, refused, try_all,
 };
+use crate::telling::must;
 use base_words::{CellId, End, GuestId};
 use guest_core::{Cut, RunRecord};
 use monitor_run::disco;
 use outside_io::{CallList, FileList, FreeGate, MemShelf, MemSink};
 use run_cases::{PRINTS_A_WORD, SENDS_A_PAGE, file_of_parts, held, words_of};
-use std::alloc::{AllocError, Global};
+use std::alloc::Global;
 use std::process::Abort;
 use std::sync::Wait;
-use std::test::Fail;
 use std::thread::Threads;
 
 /// Two nodes of 16 frames, each a cell, of which the second lends one.
@@ -109,7 +109,7 @@ const HOME_ON_NODE_1: Change<'static> = ("node = 0\n", "node = 1\n");
 
 /// Whom a failure ends: who has a frame there, borrowed or as a replica, and no one else. Who ended before stays as it ended.
 #[test]
-fn a_failed_cell_ends_who_uses_it(rt: HostRuntime) -> Result<(), Fail> {
+fn a_failed_cell_ends_who_uses_it(rt: HostRuntime) {
     let cases = [
         Case {
             changes: &[TWO_CELLS, EIGHT_AND_NINE, CELL_1_WITHIN_GUEST_1],
@@ -146,13 +146,13 @@ fn a_failed_cell_ends_who_uses_it(rt: HostRuntime) -> Result<(), Fail> {
             ..machine()
         },
     ];
-    Ok(try_all(&rt, rt.alloc(), &cases)?)
+    try_all(&rt, rt.alloc(), &cases)
 }
 
 /// Who goes on never uses the cell again: no page moves there, nothing runs on a processor there, and no block is shared with a home cell that
 /// has failed.
 #[test]
-fn a_guest_goes_on_without_a_failed_cell(rt: HostRuntime) -> Result<(), Fail> {
+fn a_guest_goes_on_without_a_failed_cell(rt: HostRuntime) {
     let cases = [
         Case {
             changes: &[TWO_CELLS, CELL_1_THEN_MOVES],
@@ -186,12 +186,12 @@ fn a_guest_goes_on_without_a_failed_cell(rt: HostRuntime) -> Result<(), Fail> {
             ..machine()
         },
     ];
-    Ok(try_all(&rt, rt.alloc(), &cases)?)
+    try_all(&rt, rt.alloc(), &cases)
 }
 
 /// A failure behind moves and runs; a guest alone has no cells, and whoever doesn't fit isn't run.
 #[test]
-fn moves_and_failures(rt: HostRuntime) -> Result<(), Fail> {
+fn moves_and_failures(rt: HostRuntime) {
     let done = Case {
         changes: &[FIFTEEN_STEPS, MOVE_AND_FAILURE],
         output: "guest 0 console 1\nA\nend halted\nsums steps 5 refills 1 moves 0 skips 1 breaks 0 shared 0 received 0 discarded 0\nfailure cell 0 ended none\n",
@@ -227,7 +227,7 @@ fn moves_and_failures(rt: HostRuntime) -> Result<(), Fail> {
             ..private()
         },
     ];
-    Ok(try_all(&rt, rt.alloc(), &cases)?)
+    try_all(&rt, rt.alloc(), &cases)
 }
 
 /// A description and the programs of its guests, which are files named by their numbers.
@@ -239,28 +239,30 @@ struct Run<'a> {
 }
 
 /// Runs it, compares the report, and gives the record.
-fn try_run<R: Abort + Threads + Wait + Sync>(
-    rt: &R,
-    alloc: Global,
-    run: &Run,
-) -> Result<RunRecord, AllocError> {
+fn try_run<R: Abort + Threads + Wait + Sync>(rt: &R, alloc: Global, run: &Run) -> RunRecord {
     let mut files = FileList::new(alloc);
-    files.push(held(alloc, "m", run.text.as_bytes().to_vec(alloc)?)?)?;
+    must(
+        rt,
+        files.push(must(
+            rt,
+            held(alloc, "m", must(rt, run.text.as_bytes().to_vec(alloc))),
+        )),
+    );
     for (number, program) in run.programs.iter().enumerate() {
-        let name = format!(in alloc; "{number}")?;
-        let image = file_of_parts(alloc, &[(0, *program)])?;
-        files.push(held(alloc, name.as_str(), image)?)?;
+        let name = must(rt, format!(in alloc; "{number}"));
+        let image = must(rt, file_of_parts(alloc, &[(0, *program)]));
+        must(rt, files.push(must(rt, held(alloc, name.as_str(), image))));
     }
     let mut shelf = MemShelf::new(alloc, files, CallList::new(alloc));
     let mut sink = MemSink::new(alloc, CallList::new(alloc));
-    let words = words_of(alloc, &["--machine", "m"])?;
+    let words = must(rt, words_of(alloc, &["--machine", "m"]));
     let mut out = RunRecord::empty(alloc);
     let status = disco(
         rt, alloc, &words, &mut shelf, &mut sink, &FreeGate, &mut out,
     );
-    assert_eq!(rt; status, 0);
-    assert_eq!(rt; sink.bytes(), run.output.as_bytes());
-    Ok(out)
+    assert!(rt; status == 0);
+    assert!(rt; sink.bytes() == run.output.as_bytes());
+    out
 }
 
 /// Guest 0 on node 1 runs for 20 steps, its cell fails, and guest 1 on node 0 runs for 11.
@@ -304,14 +306,13 @@ steps = 11
 
 /// A packet of a cell that has failed is thrown away.
 #[test]
-fn a_packet_of_a_failed_cell_is_thrown_away(rt: HostRuntime) -> Result<(), Fail> {
+fn a_packet_of_a_failed_cell_is_thrown_away(rt: HostRuntime) {
     let run = Run {
         text: SENT_BEFORE,
         programs: &[SENDS_A_PAGE, PRINTS_A_WORD],
         output: "guest 0 console 1\nQ\nend halted\nsums steps 15 refills 2 moves 0 skips 0 breaks 0 shared 0 received 0 discarded 0\nguest 1 console 0\n\nend budget\nsums steps 11 refills 1 moves 0 skips 0 breaks 0 shared 0 received 0 discarded 1\nfailure cell 1 ended none\n",
     };
-    let _ = try_run(&rt, rt.alloc(), &run)?;
-    Ok(())
+    let _ = try_run(&rt, rt.alloc(), &run);
 }
 
 /// Prints A and halts.
@@ -406,26 +407,22 @@ steps = 0
 
 /// Each slice has its steps and why it has no more, and each failure whom it ended.
 #[test]
-fn slices_and_failures_are_told(rt: HostRuntime) -> Result<(), Fail> {
-    let out = try_run(&rt, rt.alloc(), &BETWEEN_STEPS)?;
+fn slices_and_failures_are_told(rt: HostRuntime) {
+    let out = try_run(&rt, rt.alloc(), &BETWEEN_STEPS);
     let slices = out.slices.as_slice();
-    assert_eq!(rt; slices.len(), 3);
+    assert!(rt; slices.len() == 3);
     assert!(rt; slices[0].item == 0 && slices[0].steps == 4 && slices[0].cause == Cut::Whole);
     assert!(rt; slices[1].item == 2 && slices[1].steps == 0);
-    assert_eq!(rt;
-        slices[1].cause,
-        Cut::GuestEnded(End::CellFailed(CellId(1)))
-    );
+    assert!(rt; slices[1].cause == Cut::GuestEnded(End::CellFailed(CellId(1))));
     assert!(rt; slices[2].item == 3 && slices[2].steps == 5 && slices[2].cause == Cut::Whole);
     let failures = out.failures.as_slice();
-    assert_eq!(rt; failures.len(), 1);
+    assert!(rt; failures.len() == 1);
     assert!(rt; failures[0].item == 1 && failures[0].cell == CellId(1));
-    assert_eq!(rt; failures[0].ended.as_slice(), [GuestId(1)].as_slice());
-    let out = try_run(&rt, rt.alloc(), &OWN_CELL)?;
+    assert!(rt; failures[0].ended.as_slice() == [GuestId(1)].as_slice());
+    let out = try_run(&rt, rt.alloc(), &OWN_CELL);
     let slices = out.slices.as_slice();
-    assert_eq!(rt; slices.len(), 2);
+    assert!(rt; slices.len() == 2);
     assert!(rt; slices[0].item == 1 && slices[0].steps == 0);
-    assert_eq!(rt; slices[0].cause, Cut::CellFailed(CellId(0)));
+    assert!(rt; slices[0].cause == Cut::CellFailed(CellId(0)));
     assert!(rt; slices[1].item == 2 && slices[1].steps == 0 && slices[1].cause == Cut::Whole);
-    Ok(())
 }

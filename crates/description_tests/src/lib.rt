@@ -12,6 +12,10 @@ mod moves;
 #[cfg(test)]
 mod policy;
 #[cfg(test)]
+mod record;
+#[cfg(test)]
 mod refusals;
 #[cfg(test)]
 mod run_report_texts;
+#[cfg(test)]
+mod telling;

@@ -2,14 +2,15 @@
 use crate::cases::{
     Case, DISK, FIFTEEN_STEPS, FOUR_PAGES, KEEPS_ONE, READS_A_BLOCK, machine, try_all,
 };
+use crate::record::record_of;
+use crate::telling::{holds, must, same};
 use base_words::{End, Event};
 use guest_core::GuestRecord;
 use outside_io::{FreeGate, Gate};
-use run_cases::{Delaying, counts, record_of};
-use std::alloc::{AllocError, Global};
+use run_cases::{Delaying, counts};
+use std::alloc::Global;
 use std::process::Abort;
 use std::sync::Wait;
-use std::test::Fail;
 use std::thread::Threads;
 
 const TWO_NODES: (&str, &str) = ("nodes = 1", "nodes = 2");
@@ -45,7 +46,7 @@ const NODE_1_IS_FULL: (&str, &str) = (
 );
 
 #[test]
-fn a_planned_move_begins_or_is_skipped(rt: HostRuntime) -> Result<(), Fail> {
+fn a_planned_move_begins_or_is_skipped(rt: HostRuntime) {
     let cases = [
         Case {
             changes: &[TWO_NODES, FIRST_TO_1],
@@ -79,7 +80,7 @@ fn a_planned_move_begins_or_is_skipped(rt: HostRuntime) -> Result<(), Fail> {
             ..machine()
         },
     ];
-    Ok(try_all(&rt, rt.alloc(), &cases)?)
+    try_all(&rt, rt.alloc(), &cases)
 }
 
 /// Once the block is read the plan asks for the page's migration, for a replica, and for a collapse.
@@ -96,7 +97,7 @@ const REPLICA_BEFORE_THE_READ: (&str, &str) = (
 
 /// A shared page doesn't move. Where a block is shared into a page with a replica, the replica goes with no move of its own.
 #[test]
-fn shared_pages_and_moves(rt: HostRuntime) -> Result<(), Fail> {
+fn shared_pages_and_moves(rt: HostRuntime) {
     let reads = Case {
         image: &READS_A_BLOCK,
         ..machine()
@@ -127,25 +128,34 @@ fn shared_pages_and_moves(rt: HostRuntime) -> Result<(), Fail> {
             ..reads
         },
     ];
-    Ok(try_all(&rt, rt.alloc(), &cases)?)
+    try_all(&rt, rt.alloc(), &cases)
 }
 
 /// Two virtual processors of a guest of 4 pages, on processors 0 and 1 of node 0; processor 2, of node 1, moves page 1 between the two
 /// nodes ten times.
-fn counting_text(alloc: Global) -> Result<String, AllocError> {
-    let mut text = String::from_str(
-        alloc,
-        "[machine]\nnodes = 2\nframes = 16\nprocessors = [0, 0, 1]\n[[guest]]\nimage = \"a.raw\"\nform = \"raw\"\npages = 4\nvcpus = 2\nnode = 0\n[[work]]\nact = \"run\"\nprocessor = 0\nguest = 0\nvcpu = 0\nsteps = 100000\n[[work]]\nact = \"run\"\nprocessor = 1\nguest = 0\nvcpu = 1\nsteps = 100000\n",
-    )?;
+fn counting_text(rt: &impl Abort, alloc: Global) -> String {
+    let mut text = must(
+        rt,
+        String::from_str(
+            alloc,
+            "[machine]\nnodes = 2\nframes = 16\nprocessors = [0, 0, 1]\n[[guest]]\nimage = \"a.raw\"\nform = \"raw\"\npages = 4\nvcpus = 2\nnode = 0\n[[work]]\nact = \"run\"\nprocessor = 0\nguest = 0\nvcpu = 0\nsteps = 100000\n[[work]]\nact = \"run\"\nprocessor = 1\nguest = 0\nvcpu = 1\nsteps = 100000\n",
+        ),
+    );
     for _ in 0..5u8 {
-        text.push_str(
-            "[[work]]\nact = \"move\"\nprocessor = 2\nguest = 0\npage = 1\nkind = \"migrate\"\nnode = 1\n",
-        )?;
-        text.push_str(
-            "[[work]]\nact = \"move\"\nprocessor = 2\nguest = 0\npage = 1\nkind = \"migrate\"\nnode = 0\n",
-        )?;
+        must(
+            rt,
+            text.push_str(
+                "[[work]]\nact = \"move\"\nprocessor = 2\nguest = 0\npage = 1\nkind = \"migrate\"\nnode = 1\n",
+            ),
+        );
+        must(
+            rt,
+            text.push_str(
+                "[[work]]\nact = \"move\"\nprocessor = 2\nguest = 0\npage = 1\nkind = \"migrate\"\nnode = 0\n",
+            ),
+        );
     }
-    Ok(text)
+    text
 }
 
 /// Whether an entry begins a move.
@@ -167,22 +177,25 @@ fn finishes(event: Event) -> bool {
 /// The guest printed Y and halted, and each of the ten moves was begun or noted as skipped; who was begun before the guest's end was
 /// finished or ended with the guest.
 fn try_counting<R: Abort>(rt: &R, guest: &GuestRecord, about: u64) {
-    assert_eq!(rt;
+    same(
+        rt,
         guest.console.as_slice(),
         b"Y".as_slice(),
-        "console of schedule {about}"
+        ("console of schedule", about),
     );
-    assert_eq!(rt; guest.end, End::Halted, "end of schedule {about}");
+    same(rt, guest.end, End::Halted, ("end of schedule", about));
     let begun = guest.journal.count_of(begins);
     let skipped = guest.skips.len() as u64;
-    assert_eq!(rt;
+    same(
+        rt,
         begun.saturating_add(skipped),
         10,
-        "moves and skips of schedule {about}"
+        ("moves and skips of schedule", about),
     );
-    assert!(rt;
+    holds(
+        rt,
         guest.journal.count_of(finishes) <= begun,
-        "finishes of schedule {about}"
+        ("finishes of schedule", about),
     );
 }
 
@@ -192,21 +205,20 @@ fn try_schedule<R: Abort + Threads + Wait + Sync, G: Gate>(
     alloc: Global,
     gate: &G,
     about: u64,
-) -> Result<(), AllocError> {
-    let text = counting_text(alloc)?;
-    let out = record_of(rt, alloc, text.as_str(), counts(alloc, 2)?, gate)?;
+) {
+    let text = counting_text(rt, alloc);
+    let image = must(rt, counts(alloc, 2));
+    let out = record_of(rt, alloc, text.as_str(), image, gate);
     for guest in out.guests.as_slice() {
         try_counting(rt, guest, about);
     }
-    Ok(())
 }
 
 #[test]
-fn virtual_processors_count_while_their_page_moves(rt: HostRuntime) -> Result<(), Fail> {
+fn virtual_processors_count_while_their_page_moves(rt: HostRuntime) {
     let alloc = rt.alloc();
-    try_schedule(&rt, alloc, &FreeGate, 0)?;
+    try_schedule(&rt, alloc, &FreeGate, 0);
     for schedule in 1..21 {
-        try_schedule(&rt, alloc, &Delaying::new(schedule), schedule)?;
+        try_schedule(&rt, alloc, &Delaying::new(schedule), schedule);
     }
-    Ok(())
 }

@@ -1,13 +1,14 @@
 //! Whole runs in which pages follow their users: by the policy's counters, as replicas, and as they are written.
 use crate::cases::{Case, machine, try_all};
+use crate::record::record_of;
+use crate::telling::{holds, must, same};
 use base_words::{By, Bytes, End, Event, MoveKind, NodeId, Ppn, ProcId, VcpuId};
 use guest_core::GuestRecord;
 use outside_io::{FreeGate, Gate};
-use run_cases::{Delaying, counts, have_entries, record_of};
-use std::alloc::{AllocError, Global};
+use run_cases::{Delaying, counts, have_entries};
+use std::alloc::Global;
 use std::process::Abort;
 use std::sync::Wait;
-use std::test::Fail;
 use std::thread::Threads;
 
 /// LUI 8, C000, and five times LW 9, 1000(8), and SW 9, 1000(8): five reads of page 1, and a store to it.
@@ -47,7 +48,7 @@ const NODE_1_IS_FULL: (&str, &str) = (
 );
 
 #[test]
-fn pages_follow_their_users(rt: HostRuntime) -> Result<(), Fail> {
+fn pages_follow_their_users(rt: HostRuntime) {
     let far = Case {
         image: &READS,
         ..machine()
@@ -96,7 +97,7 @@ fn pages_follow_their_users(rt: HostRuntime) -> Result<(), Fail> {
             ..far
         },
     ];
-    Ok(try_all(&rt, rt.alloc(), &cases)?)
+    try_all(&rt, rt.alloc(), &cases)
 }
 
 /// Before the run: a replica of page 0 on node 1, another one there, the page to node 1, then none, and none once more.
@@ -112,7 +113,7 @@ const THREE_REPLICAS: (&str, &str) = (
 );
 
 #[test]
-fn planned_replicas_come_and_go(rt: HostRuntime) -> Result<(), Fail> {
+fn planned_replicas_come_and_go(rt: HostRuntime) {
     let cases = [
         Case {
             changes: &[("nodes = 1", "nodes = 2"), REPLICA_AND_BACK],
@@ -126,24 +127,33 @@ fn planned_replicas_come_and_go(rt: HostRuntime) -> Result<(), Fail> {
             ..machine()
         },
     ];
-    Ok(try_all(&rt, rt.alloc(), &cases)?)
+    try_all(&rt, rt.alloc(), &cases)
 }
 
 /// Two virtual processors of a guest of 4 pages on node 0, which count on processors of two other nodes under a policy of these thresholds,
 /// while the plan makes replicas of the page on which they count.
-fn counting_text(alloc: Global, migrate: u8, replicate: u8) -> Result<String, AllocError> {
-    let mut text = format!(in alloc;
-        "[machine]\nnodes = 4\nframes = 16\nprocessors = [1, 2, 3]\n[policy]\nmigrate = {migrate}\nreplicate = {replicate}\n[[guest]]\nimage = \"a.raw\"\nform = \"raw\"\npages = 4\nvcpus = 2\nnode = 0\n[[work]]\nact = \"run\"\nprocessor = 0\nguest = 0\nvcpu = 0\nsteps = 100000\n[[work]]\nact = \"run\"\nprocessor = 1\nguest = 0\nvcpu = 1\nsteps = 100000\n"
-    )?;
+fn counting_text(rt: &impl Abort, alloc: Global, migrate: u8, replicate: u8) -> String {
+    let mut text = must(
+        rt,
+        format!(in alloc;
+            "[machine]\nnodes = 4\nframes = 16\nprocessors = [1, 2, 3]\n[policy]\nmigrate = {migrate}\nreplicate = {replicate}\n[[guest]]\nimage = \"a.raw\"\nform = \"raw\"\npages = 4\nvcpus = 2\nnode = 0\n[[work]]\nact = \"run\"\nprocessor = 0\nguest = 0\nvcpu = 0\nsteps = 100000\n[[work]]\nact = \"run\"\nprocessor = 1\nguest = 0\nvcpu = 1\nsteps = 100000\n"
+        ),
+    );
     for _ in 0..5u8 {
-        text.push_str(
-            "[[work]]\nact = \"move\"\nprocessor = 2\nguest = 0\npage = 1\nkind = \"replicate\"\nnode = 3\n",
-        )?;
-        text.push_str(
-            "[[work]]\nact = \"move\"\nprocessor = 2\nguest = 0\npage = 1\nkind = \"collapse\"\n",
-        )?;
+        must(
+            rt,
+            text.push_str(
+                "[[work]]\nact = \"move\"\nprocessor = 2\nguest = 0\npage = 1\nkind = \"replicate\"\nnode = 3\n",
+            ),
+        );
+        must(
+            rt,
+            text.push_str(
+                "[[work]]\nact = \"move\"\nprocessor = 2\nguest = 0\npage = 1\nkind = \"collapse\"\n",
+            ),
+        );
     }
-    Ok(text)
+    text
 }
 
 /// Whether an entry begins a move that the policy chose.
@@ -167,26 +177,29 @@ fn is_planned(event: Event) -> bool {
 
 /// The guest printed Y and halted, each planned move was begun or noted as skipped, and pages moved by the policy.
 fn try_counting<R: Abort>(rt: &R, guest: &GuestRecord, about: u64) {
-    assert_eq!(rt;
+    same(
+        rt,
         guest.console.as_slice(),
         b"Y".as_slice(),
-        "console of schedule {about}"
+        ("console of schedule", about),
     );
-    assert_eq!(rt; guest.end, End::Halted, "end of schedule {about}");
+    same(rt, guest.end, End::Halted, ("end of schedule", about));
     let mut skipped = 0u64;
     for skip in guest.skips.as_slice() {
         if let By::Plan(_) = skip.by {
             skipped = skipped.saturating_add(1);
         }
     }
-    assert_eq!(rt;
+    same(
+        rt,
         guest.journal.count_of(is_planned).saturating_add(skipped),
         10,
-        "planned moves of schedule {about}"
+        ("planned moves of schedule", about),
     );
-    assert!(rt;
+    holds(
+        rt,
         guest.journal.count_of(is_due) > 0,
-        "moves by the policy under schedule {about}"
+        ("moves by the policy under schedule", about),
     );
 }
 
@@ -196,34 +209,33 @@ fn try_schedule<R: Abort + Threads + Wait + Sync, G: Gate>(
     alloc: Global,
     gate: &G,
     about: u64,
-) -> Result<(), AllocError> {
-    let text = counting_text(alloc, 2, 3)?;
-    let out = record_of(rt, alloc, text.as_str(), counts(alloc, 2)?, gate)?;
+) {
+    let text = counting_text(rt, alloc, 2, 3);
+    let image = must(rt, counts(alloc, 2));
+    let out = record_of(rt, alloc, text.as_str(), image, gate);
     for guest in out.guests.as_slice() {
         try_counting(rt, guest, about);
     }
-    Ok(())
 }
 
 #[test]
-fn virtual_processors_count_under_a_policy(rt: HostRuntime) -> Result<(), Fail> {
+fn virtual_processors_count_under_a_policy(rt: HostRuntime) {
     let alloc = rt.alloc();
-    try_schedule(&rt, alloc, &FreeGate, 0)?;
+    try_schedule(&rt, alloc, &FreeGate, 0);
     for schedule in 1..21 {
-        try_schedule(&rt, alloc, &Delaying::new(schedule), schedule)?;
+        try_schedule(&rt, alloc, &Delaying::new(schedule), schedule);
     }
-    Ok(())
 }
 
 /// After the third miss of page 1 the policy asks for its migration, through processor 0, to node 1.
 #[test]
-fn the_third_miss_asks(rt: HostRuntime) -> Result<(), Fail> {
+fn the_third_miss_asks(rt: HostRuntime) {
     let alloc = rt.alloc();
     let (processor, vcpu, page) = (ProcId(0), VcpuId(0), Ppn(1));
     let text =
         "[machine]\nnodes = 2\nframes = 16\nprocessors = [1]\n[policy]\nmigrate = 3\n[[guest]]\nimage = \"a.raw\"\nform = \"raw\"\npages = 4\nvcpus = 1\nnode = 0\n[[work]]\nact = \"run\"\nprocessor = 0\nguest = 0\nvcpu = 0\nsteps = 5\n";
-    let image = Bytes::from_vec(READS.to_vec(alloc)?);
-    let out = record_of(&rt, alloc, text, image, &FreeGate)?;
+    let image = Bytes::from_vec(must(&rt, READS.to_vec(alloc)));
+    let out = record_of(&rt, alloc, text, image, &FreeGate);
     let expected = [
         (Event::Load(processor, vcpu), 1),
         (Event::Refill(processor), 1),
@@ -247,5 +259,4 @@ fn the_third_miss_asks(rt: HostRuntime) -> Result<(), Fail> {
         (Event::End(End::Budget), 1),
     ];
     assert!(&rt; have_entries(&out, &expected), "its entries");
-    Ok(())
 }

@@ -3,10 +3,10 @@ use crate::cases::{
     ALONE, Case, FOUR_FRAMES, KEEPS_ONE, P1, TWO_GUESTS, machine, private, refused, try_all,
     try_case,
 };
-use std::test::Fail;
+use crate::telling::must;
 
 #[test]
-fn descriptions_are_refused(rt: HostRuntime) -> Result<(), Fail> {
+fn descriptions_are_refused(rt: HostRuntime) {
     let cases = [
         refused(&[("[machine]", "[machine")], 5, "fault description toml\n"),
         refused(
@@ -61,19 +61,18 @@ fn descriptions_are_refused(rt: HostRuntime) -> Result<(), Fail> {
             "fault description steps 16000005\n",
         ),
     ];
-    try_all(&rt, rt.alloc(), &cases)?;
+    try_all(&rt, rt.alloc(), &cases);
     for case in &cases {
         let alone = Case {
             option: "--private",
             ..*case
         };
-        try_case(&rt, rt.alloc(), &alone)?;
+        try_case(&rt, rt.alloc(), &alone);
     }
-    Ok(())
 }
 
 #[test]
-fn images_and_frames_are_refused(rt: HostRuntime) -> Result<(), Fail> {
+fn images_and_frames_are_refused(rt: HostRuntime) {
     let cases = [
         Case {
             image: &[1, 2, 3, 4, 5, 6],
@@ -103,12 +102,12 @@ fn images_and_frames_are_refused(rt: HostRuntime) -> Result<(), Fail> {
             )
         },
     ];
-    Ok(try_all(&rt, rt.alloc(), &cases)?)
+    try_all(&rt, rt.alloc(), &cases)
 }
 
 /// The frames in which a cell keeps blocks are counted before the guests' pages, also for guests that run alone.
 #[test]
-fn the_frames_of_a_cache_are_counted(rt: HostRuntime) -> Result<(), Fail> {
+fn the_frames_of_a_cache_are_counted(rt: HostRuntime) {
     let cases = [
         refused(&[KEEPS_ONE], 7, "fault admission guest 0 needs 16 has 15\n"),
         refused(
@@ -124,11 +123,11 @@ fn the_frames_of_a_cache_are_counted(rt: HostRuntime) -> Result<(), Fail> {
             ..refused(&[KEEPS_ONE], 7, "fault admission guest 0 needs 16 has 15\n")
         },
     ];
-    Ok(try_all(&rt, rt.alloc(), &cases)?)
+    try_all(&rt, rt.alloc(), &cases)
 }
 
 #[test]
-fn reads_and_outputs_that_fail(rt: HostRuntime) -> Result<(), Fail> {
+fn reads_and_outputs_that_fail(rt: HostRuntime) {
     let alloc = rt.alloc();
     let cases = [
         Case {
@@ -162,26 +161,25 @@ fn reads_and_outputs_that_fail(rt: HostRuntime) -> Result<(), Fail> {
             ..private()
         },
     ];
-    try_all(&rt, alloc, &cases)?;
-    let mut long = String::from_str(alloc, "#")?;
+    try_all(&rt, alloc, &cases);
+    let mut long = must(&rt, String::from_str(alloc, "#"));
     for _ in 0..20 {
-        long = format!(in alloc; "{long}{long}")?;
+        long = must(&rt, format!(in alloc; "{long}{long}"));
     }
-    let longer = format!(in alloc; "{long}#")?;
+    let longer = must(&rt, format!(in alloc; "{long}#"));
     let changes = [(P1, longer.as_str())];
-    try_case(&rt, alloc, &refused(&changes, 8, "fault long m\n"))?;
+    try_case(&rt, alloc, &refused(&changes, 8, "fault long m\n"));
     let changes = [(P1, long.as_str())];
     try_case(
         &rt,
         alloc,
         &refused(&changes, 5, "fault description missing machine\n"),
-    )?;
-    Ok(())
+    );
 }
 
 /// An output that fails under the monitor, whose record stays.
 #[test]
-fn an_output_that_fails_under_the_monitor(rt: HostRuntime) -> Result<(), Fail> {
+fn an_output_that_fails_under_the_monitor(rt: HostRuntime) {
     let cases = [
         Case {
             sink_fails: &[1],
@@ -201,5 +199,5 @@ fn an_output_that_fails_under_the_monitor(rt: HostRuntime) -> Result<(), Fail> {
             ..machine()
         },
     ];
-    Ok(try_all(&rt, rt.alloc(), &cases)?)
+    try_all(&rt, rt.alloc(), &cases)
 }

@@ -1,4 +1,5 @@
 //! Images made here, each with the fault or the pages that the ELF specification and the rules on guests give it by hand.
+use crate::telling::{holds, must, same};
 use Change::{Bytes, Length, Nothing};
 use elf_image::ImageFault::{
     Class, Entry, Headers, Interp, Kind, Magic, Order, Overlap, Place, Processor, Segment, Short,
@@ -7,7 +8,6 @@ use elf_image::ImageFault::{
 use elf_image::{Image, ImageFault, load, load_raw};
 use std::alloc::Global;
 use std::process::Abort;
-use std::test::Fail;
 
 /// A program header: type, offset, virtual address, bytes in the file, bytes in memory.
 type Header = [u32; 5];
@@ -39,32 +39,37 @@ const FIRST: u32 = 0xC000_0000;
 const SECOND: u32 = 0xC000_1000;
 
 /// A file of a header, these program headers from offset 52 on, and the bytes 1 to 16.
-fn file_of(alloc: Global, headers: &[Header]) -> Result<Vec<u8>, Fail> {
+fn file_of(rt: &impl Abort, alloc: Global, headers: &[Header]) -> Vec<u8> {
     let mut file = Vec::new(alloc);
-    file.extend_from_slice(b"\x7FELF\x01\x02\x01\0\0\0\0\0\0\0\0\0")?;
-    file.extend_from_slice(&[0, 2, 0, 8, 0, 0, 0, 1])?;
-    put_word(&mut file, FIRST)?;
-    put_word(&mut file, 52)?;
-    file.extend_from_slice(&[0, 0, 0, 0, 0, 0, 0, 0, 0, 52, 0, 32, 0])?;
-    file.push((headers.len() % 256) as u8)?;
-    file.extend_from_slice(&[0, 0, 0, 0, 0, 0])?;
+    must(
+        rt,
+        file.extend_from_slice(b"\x7FELF\x01\x02\x01\0\0\0\0\0\0\0\0\0"),
+    );
+    must(rt, file.extend_from_slice(&[0, 2, 0, 8, 0, 0, 0, 1]));
+    put_word(rt, &mut file, FIRST);
+    put_word(rt, &mut file, 52);
+    must(
+        rt,
+        file.extend_from_slice(&[0, 0, 0, 0, 0, 0, 0, 0, 0, 52, 0, 32, 0]),
+    );
+    must(rt, file.push((headers.len() % 256) as u8));
+    must(rt, file.extend_from_slice(&[0, 0, 0, 0, 0, 0]));
     for [kind, offset, address, file_size, memory_size] in headers {
         for field in [*kind, *offset, *address, 0, *file_size, *memory_size, 7, 4] {
-            put_word(&mut file, field)?;
+            put_word(rt, &mut file, field);
         }
     }
     for byte in 1..=16u8 {
-        file.push(byte)?;
+        must(rt, file.push(byte));
     }
-    Ok(file)
+    file
 }
 
-fn put_word(file: &mut Vec<u8>, word: u32) -> Result<(), Fail> {
-    file.extend_from_slice(&word.to_be_bytes())?;
-    Ok(())
+fn put_word(rt: &impl Abort, file: &mut Vec<u8>, word: u32) {
+    must(rt, file.extend_from_slice(&word.to_be_bytes()));
 }
 
-fn alter(file: &mut Vec<u8>, change: &Change) -> Result<(), Fail> {
+fn alter(rt: &impl Abort, file: &mut Vec<u8>, change: &Change) {
     match change {
         Nothing => {}
         Bytes(edits) => {
@@ -77,11 +82,10 @@ fn alter(file: &mut Vec<u8>, change: &Change) -> Result<(), Fail> {
         Length(length) => {
             file.truncate(*length);
             for _ in file.len()..*length {
-                file.push(0)?;
+                must(rt, file.push(0));
             }
         }
     }
-    Ok(())
 }
 
 /// The sum of a page's bytes, each times its place counted from 1.
@@ -95,12 +99,12 @@ fn weight(bytes: &[u8]) -> u64 {
     sum
 }
 
-fn weights(alloc: Global, image: &Image) -> Result<Vec<u64>, Fail> {
+fn weights(rt: &impl Abort, alloc: Global, image: &Image) -> Vec<u64> {
     let mut sums = Vec::new(alloc);
     for page in image.pages.as_slice() {
-        sums.push(weight(page.bytes()))?;
+        must(rt, sums.push(weight(page.bytes())));
     }
-    Ok(sums)
+    sums
 }
 
 fn compare(
@@ -109,36 +113,33 @@ fn compare(
     row: usize,
     got: Result<Image, ImageFault>,
     wanted: &Wanted,
-) -> Result<(), Fail> {
+) {
     match (got, wanted) {
         (Ok(image), Ok((entry, sums))) => {
-            assert_eq!(rt; image.entry, *entry, "row {row}");
-            assert!(rt; weights(alloc, &image)?.as_slice() == *sums, "row {row}");
+            same(rt, image.entry, *entry, ("row", row));
+            holds(
+                rt,
+                weights(rt, alloc, &image).as_slice() == *sums,
+                ("row", row),
+            );
         }
-        (Err(fault), Err(other)) => assert_eq!(rt; fault, *other, "row {row}"),
-        (Ok(_), Err(other)) => assert!(rt; false, "row {row}: loaded, though {other}"),
-        (Err(fault), Ok(_)) => assert!(rt; false, "row {row}: {fault}"),
+        (Err(fault), Err(other)) => same(rt, fault, *other, ("row", row)),
+        (Ok(_), Err(other)) => holds(rt, false, ("loaded", row, other)),
+        (Err(fault), Ok(_)) => holds(rt, false, ("row", row, fault)),
     }
-    Ok(())
 }
 
 /// Loads a file with these program headers into two pages, once for each change.
-fn load_changed(
-    rt: &impl Abort,
-    alloc: Global,
-    headers: &[Header],
-    rows: &[(Change, Wanted)],
-) -> Result<(), Fail> {
+fn load_changed(rt: &impl Abort, alloc: Global, headers: &[Header], rows: &[(Change, Wanted)]) {
     for (row, (change, wanted)) in rows.iter().enumerate() {
-        let mut file = file_of(alloc, headers)?;
-        alter(&mut file, change)?;
-        compare(rt, alloc, row, load(alloc, file.as_slice(), 2), wanted)?;
+        let mut file = file_of(rt, alloc, headers);
+        alter(rt, &mut file, change);
+        compare(rt, alloc, row, load(alloc, file.as_slice(), 2), wanted);
     }
-    Ok(())
 }
 
 #[test]
-fn tests_the_file_header(rt: HostRuntime) -> Result<(), Fail> {
+fn tests_the_file_header(rt: HostRuntime) {
     let rows: [(Change, Wanted); 27] = [
         // A file without program headers, as one that has sections alone: at least its header.
         (Length(0), Err(Short)),
@@ -183,7 +184,7 @@ fn tests_the_file_header(rt: HostRuntime) -> Result<(), Fail> {
 }
 
 #[test]
-fn tests_the_table(rt: HostRuntime) -> Result<(), Fail> {
+fn tests_the_table(rt: HostRuntime) {
     let rows: [(Change, Wanted); 11] = [
         // Entries of 33 and of 288 bytes.
         (Bytes(&[(43, 33)]), Err(Headers)),
@@ -208,7 +209,7 @@ fn tests_the_table(rt: HostRuntime) -> Result<(), Fail> {
 }
 
 #[test]
-fn loads_segments(rt: HostRuntime) -> Result<(), Fail> {
+fn loads_segments(rt: HostRuntime) {
     let rows: [Row; 33] = [
         // The bytes 1 to 16 in a page, across two, at the end of memory, before zeros; the last byte of the file, and bytes of its header.
         (&[[LOAD, 84, FIRST, 16, 16]], Ok((FIRST, &[1496, 0]))),
@@ -321,25 +322,24 @@ fn loads_segments(rt: HostRuntime) -> Result<(), Fail> {
         ),
     ];
     for (row, (headers, wanted)) in rows.iter().enumerate() {
-        let file = file_of(rt.alloc(), headers)?;
+        let file = file_of(&rt, rt.alloc(), headers);
         compare(
             &rt,
             rt.alloc(),
             row,
             load(rt.alloc(), file.as_slice(), 2),
             wanted,
-        )?;
+        );
     }
-    Ok(())
 }
 
 /// Two segments with the same byte, and an entry within a word or no memory at all.
 #[test]
-fn tests_the_entry_last(rt: HostRuntime) -> Result<(), Fail> {
+fn tests_the_entry_last(rt: HostRuntime) {
     let twice: &[Header] = &[[LOAD, 116, FIRST, 1, 1], [LOAD, 116, FIRST, 1, 1]];
     let rows: [(Change, Wanted); 1] = [(Bytes(&[(27, 2)]), Err(Overlap(0, 1)))];
-    load_changed(&rt, rt.alloc(), twice, &rows)?;
-    let file = file_of(rt.alloc(), &[])?;
+    load_changed(&rt, rt.alloc(), twice, &rows);
+    let file = file_of(&rt, rt.alloc(), &[]);
     compare(
         &rt,
         rt.alloc(),
@@ -351,7 +351,7 @@ fn tests_the_entry_last(rt: HostRuntime) -> Result<(), Fail> {
 
 /// Files of ones.
 #[test]
-fn loads_raw_files(rt: HostRuntime) -> Result<(), Fail> {
+fn loads_raw_files(rt: HostRuntime) {
     let rows: [(usize, u32, Wanted); 13] = [
         (0, 0, Ok((FIRST, &[]))),
         (4, 0, Err(Place(0))),
@@ -370,10 +370,9 @@ fn loads_raw_files(rt: HostRuntime) -> Result<(), Fail> {
     for (row, (length, pages, wanted)) in rows.iter().enumerate() {
         let mut file = Vec::new(rt.alloc());
         for _ in 0..*length {
-            file.push(1u8)?;
+            must(&rt, file.push(1u8));
         }
         let got = load_raw(rt.alloc(), file.as_slice(), *pages);
-        compare(&rt, rt.alloc(), row, got, wanted)?;
+        compare(&rt, rt.alloc(), row, got, wanted);
     }
-    Ok(())
 }

@@ -7,3 +7,5 @@ mod elf_image_files;
 mod machine_desc_texts;
 #[cfg(test)]
 mod outside_io_calls;
+#[cfg(test)]
+mod telling;

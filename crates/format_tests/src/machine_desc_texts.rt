@@ -1,6 +1,7 @@
+use crate::telling::{must, same};
 use base_words::{CellId, GuestId, InputList, MoveKind, Name, NodeId, Policy, Ppn, ProcId, VcpuId};
 use machine_desc::{GuestSpec, Item, Machine, read};
-use std::alloc::{AllocError, Global};
+use std::alloc::Global;
 use std::process::Abort;
 use std::test::Fail;
 
@@ -251,65 +252,63 @@ W @ |  | missing machine
 ";
 
 /// The text with the first place of one part replaced by another.
-fn changed(alloc: Global, text: &str, old: &str, new: &str) -> Result<String, AllocError> {
+fn changed(rt: &impl Abort, alloc: Global, text: &str, old: &str, new: &str) -> String {
     match text.split_once(old) {
-        Some((front, back)) => format!(in alloc; "{front}{new}{back}"),
-        None => format!(in alloc; "{old} is not there"),
+        Some((front, back)) => must(rt, format!(in alloc; "{front}{new}{back}")),
+        None => must(rt, format!(in alloc; "{old} is not there")),
     }
 }
 
 /// The answer to a description, as it is printed.
-fn answer(alloc: Global, bytes: &[u8]) -> Result<String, AllocError> {
+fn answer(rt: &impl Abort, alloc: Global, bytes: &[u8]) -> String {
     match read(alloc, bytes) {
-        Ok(_) => String::from_str(alloc, "ok"),
-        Err(fault) => format!(in alloc; "{fault}"),
+        Ok(_) => must(rt, String::from_str(alloc, "ok")),
+        Err(fault) => must(rt, format!(in alloc; "{fault}")),
     }
 }
 
 /// The answer to a description prints so.
-fn prints(rt: &impl Abort, alloc: Global, bytes: &[u8], want: &str) -> Result<(), AllocError> {
-    let got = answer(alloc, bytes)?;
-    assert_eq!(rt; got.as_str(), want);
-    Ok(())
+fn prints(rt: &impl Abort, alloc: Global, bytes: &[u8], want: &str) {
+    let got = answer(rt, alloc, bytes);
+    assert!(rt; got.as_str() == want);
 }
 
 /// A part of a row, with the ends of its lines.
-fn lines_of(alloc: Global, part: &str) -> Result<String, AllocError> {
+fn lines_of(rt: &impl Abort, alloc: Global, part: &str) -> String {
     let mut text = String::new(alloc);
     for c in part.chars() {
-        text.push(if c == '~' { '\n' } else { c })?;
+        must(rt, text.push(if c == '~' { '\n' } else { c }));
     }
-    Ok(text)
+    text
 }
 
 /// The description of a row, and what its answer prints.
-fn row(alloc: Global, line: &str) -> Result<(String, &str), Fail> {
-    let (base, rest) = line.split_once(' ').ok_or("a row")?;
-    let (old, rest) = rest.split_once(" | ").ok_or("what is replaced")?;
-    let (new, want) = rest.split_once(" | ").ok_or("by what")?;
-    let (old, new) = (lines_of(alloc, old)?, lines_of(alloc, new)?);
+fn row<'a>(rt: &impl Abort, alloc: Global, line: &'a str) -> (String, &'a str) {
+    let (base, rest) = must(rt, line.split_once(' ').ok_or("a row"));
+    let (old, rest) = must(rt, rest.split_once(" | ").ok_or("what is replaced"));
+    let (new, want) = must(rt, rest.split_once(" | ").ok_or("by what"));
+    let (old, new) = (lines_of(rt, alloc, old), lines_of(rt, alloc, new));
     let text = match base {
-        "P" => changed(alloc, P1, old.as_str(), new.as_str())?,
-        "A" => changed(alloc, ALL, old.as_str(), new.as_str())?,
+        "P" => changed(rt, alloc, P1, old.as_str(), new.as_str()),
+        "A" => changed(rt, alloc, ALL, old.as_str(), new.as_str()),
         _ => new,
     };
-    Ok((text, want))
+    (text, want)
 }
 
 #[test]
-fn first_faults(rt: HostRuntime) -> Result<(), Fail> {
+fn first_faults(rt: HostRuntime) {
     let mut rows = 0u32;
     for line in ROWS.lines() {
         if line.starts_with('#') {
             continue;
         }
-        let (text, want) = row(rt.alloc(), line)?;
-        let got = answer(rt.alloc(), text.as_bytes())?;
-        assert_eq!(rt; got.as_str(), want, "{line}");
+        let (text, want) = row(&rt, rt.alloc(), line);
+        let got = answer(&rt, rt.alloc(), text.as_bytes());
+        same(&rt, got.as_str(), want, line);
         rows = rows.saturating_add(1);
     }
-    assert_eq!(rt; rows, 144);
-    Ok(())
+    assert!(rt; rows == 144);
 }
 
 // A text of so many characters in the place of another.
@@ -322,18 +321,17 @@ const LENGTHS: [(&str, char, u32, &str); 5] = [
 ];
 
 #[test]
-fn lengths_of_texts(rt: HostRuntime) -> Result<(), Fail> {
+fn lengths_of_texts(rt: HostRuntime) {
     for (old, c, count, want) in &LENGTHS {
         let mut new = String::new(rt.alloc());
         for _ in 0..*count {
-            new.push(*c)?;
+            must(&rt, new.push(*c));
         }
-        let old = format!(in rt.alloc(); "\"{old}\"")?;
-        let new = format!(in rt.alloc(); "\"{new}\"")?;
-        let text = changed(rt.alloc(), ALL, old.as_str(), new.as_str())?;
-        prints(&rt, rt.alloc(), text.as_bytes(), *want)?;
+        let old = must(&rt, format!(in rt.alloc(); "\"{old}\""));
+        let new = must(&rt, format!(in rt.alloc(); "\"{new}\""));
+        let text = changed(&rt, rt.alloc(), ALL, old.as_str(), new.as_str());
+        prints(&rt, rt.alloc(), text.as_bytes(), *want);
     }
-    Ok(())
 }
 
 /// The cells of a machine's nodes, what each cell lends, its cache, and when pages move.
@@ -345,28 +343,24 @@ fn has(
     cache: u32,
     policy: Policy,
 ) {
-    assert_eq!(rt; machine.shape.cells.as_slice(), cells);
-    assert_eq!(rt; machine.lends.as_slice(), lends);
-    assert_eq!(rt; machine.cache, cache);
-    assert_eq!(rt; machine.policy, policy);
+    assert!(rt; machine.shape.cells.as_slice() == cells);
+    assert!(rt; machine.lends.as_slice() == lends);
+    assert!(rt; machine.cache == cache);
+    assert!(rt; machine.policy == policy);
 }
 
 /// A guest is shown so.
-fn shows(rt: &impl Abort, alloc: Global, guest: &GuestSpec, want: &str) -> Result<(), AllocError> {
-    let got = shown(alloc, guest)?;
-    assert_eq!(rt; got.as_str(), want);
-    Ok(())
+fn shows(rt: &impl Abort, alloc: Global, guest: &GuestSpec, want: &str) {
+    let got = shown(rt, alloc, guest);
+    assert!(rt; got.as_str() == want);
 }
 
 #[test]
-fn all_values(rt: HostRuntime) -> Result<(), Fail> {
-    let (machine, plan) = read(rt.alloc(), ALL.as_bytes())?;
-    assert_eq!(rt; machine.shape.nodes, 2);
-    assert_eq!(rt; machine.shape.frames, 32);
-    assert_eq!(rt;
-        machine.processors.as_slice(),
-        [NodeId(0), NodeId(1), NodeId(1)].as_slice()
-    );
+fn all_values(rt: HostRuntime) {
+    let (machine, plan) = must(&rt, read(rt.alloc(), ALL.as_bytes()));
+    assert!(rt; machine.shape.nodes == 2);
+    assert!(rt; machine.shape.frames == 32);
+    assert!(rt; machine.processors.as_slice() == [NodeId(0), NodeId(1), NodeId(1)].as_slice());
     let policy = Policy {
         migrate: 64,
         replicate: 32,
@@ -398,68 +392,73 @@ fn all_values(rt: HostRuntime) -> Result<(), Fail> {
             cell: CellId(1),
         },
     ];
-    assert_eq!(rt; plan.items.as_slice(), items.as_slice());
-    Ok(())
+    assert!(rt; plan.items.as_slice() == items.as_slice());
 }
 
 /// A guest in one line.
-fn shown(alloc: Global, guest: &GuestSpec) -> Result<String, AllocError> {
+fn shown(rt: &impl Abort, alloc: Global, guest: &GuestSpec) -> String {
     let (image, raw, pages) = (guest.image.as_str(), guest.raw, guest.pages);
     let (vcpus, node) = (guest.vcpus, guest.node.0);
     let disk = guest.disk.as_ref().map_or("none", Name::as_str);
-    format!(in alloc; "{image} {raw} {pages} {vcpus} {node} {disk}")
+    must(
+        rt,
+        format!(in alloc; "{image} {raw} {pages} {vcpus} {node} {disk}"),
+    )
 }
 
 #[test]
-fn all_guests(rt: HostRuntime) -> Result<(), Fail> {
-    let (machine, _) = read(rt.alloc(), ALL.as_bytes())?;
+fn all_guests(rt: HostRuntime) {
+    let (machine, _) = must(&rt, read(rt.alloc(), ALL.as_bytes()));
     let wants = ["a.raw true 16 2 1 d.img", "b.elf false 8 1 0 none"];
-    assert_eq!(rt; machine.guests.len(), 2);
+    assert!(rt; machine.guests.len() == 2);
     for (guest, want) in machine.guests.as_slice().iter().zip(&wants) {
-        shows(&rt, rt.alloc(), guest, *want)?;
+        shows(&rt, rt.alloc(), guest, *want);
     }
-    Ok(())
 }
 
 /// The input of a guest in one line: `at` and text of each entry.
-fn listed(alloc: Global, list: &InputList) -> Result<String, Fail> {
+fn listed(rt: &impl Abort, alloc: Global, list: &InputList) -> String {
     let mut line = String::new(alloc);
     for entry in list.as_slice() {
-        let (at, text) = (entry.at, std::str::from_utf8(entry.text.as_slice())?);
-        line.push_str(format!(in alloc; "{at} {text} ")?.as_str())?;
+        let (at, text) = (
+            entry.at,
+            must(rt, std::str::from_utf8(entry.text.as_slice())),
+        );
+        must(
+            rt,
+            line.push_str(must(rt, format!(in alloc; "{at} {text} ")).as_str()),
+        );
     }
-    Ok(line)
+    line
 }
 
 #[test]
-fn input_in_order(rt: HostRuntime) -> Result<(), Fail> {
-    let (_, plan) = read(rt.alloc(), ALL.as_bytes())?;
+fn input_in_order(rt: HostRuntime) {
+    let (_, plan) = must(&rt, read(rt.alloc(), ALL.as_bytes()));
     let wants = ["2 a 9 b 9 c ", "30 x "];
-    assert_eq!(rt; plan.input.len(), 2);
+    assert!(rt; plan.input.len() == 2);
     for (list, want) in plan.input.as_slice().iter().zip(&wants) {
-        assert_eq!(rt; listed(rt.alloc(), list)?.as_str(), *want);
+        assert!(rt; listed(&rt, rt.alloc(), list).as_str() == *want);
     }
-    Ok(())
 }
 
 #[test]
-fn defaults(rt: HostRuntime) -> Result<(), Fail> {
-    let text = changed(rt.alloc(), P1, "nodes = 1", "nodes = 2")?;
-    let text = changed(rt.alloc(), text.as_str(), "form = \"raw\"\n", "")?;
-    let (machine, plan) = read(rt.alloc(), text.as_bytes())?;
+fn defaults(rt: HostRuntime) {
+    let text = changed(&rt, rt.alloc(), P1, "nodes = 1", "nodes = 2");
+    let text = changed(&rt, rt.alloc(), text.as_str(), "form = \"raw\"\n", "");
+    let (machine, plan) = must(&rt, read(rt.alloc(), text.as_bytes()));
     let policy = Policy {
         migrate: 0,
         replicate: 0,
     };
     has(&rt, &machine, &[CellId(0), CellId(0)], &[0], 0, policy);
     for guest in machine.guests.as_slice() {
-        shows(&rt, rt.alloc(), guest, "a.raw false 16 1 0 none")?;
+        shows(&rt, rt.alloc(), guest, "a.raw false 16 1 0 none");
     }
     for list in plan.input.as_slice() {
-        assert_eq!(rt; list.len(), 0);
+        assert!(rt; list.len() == 0);
     }
-    assert_eq!(rt; plan.input.len(), 1);
-    Ok(())
+    assert!(rt; plan.input.len() == 1);
 }
 
 // A machine with one guest, before its work.
@@ -475,44 +474,55 @@ node = 0
 ";
 
 /// As much work and input as there may be, with so many pieces of work.
-fn long(alloc: Global, pieces: u32) -> Result<String, AllocError> {
-    let mut text = String::from_str(alloc, HEAD)?;
+fn long(rt: &impl Abort, alloc: Global, pieces: u32) -> String {
+    let mut text = must(rt, String::from_str(alloc, HEAD));
     for _ in 0..pieces {
-        text.push_str(
-            "[[work]]\nact = \"run\"\nprocessor = 0\nguest = 0\nvcpu = 0\nsteps = 3906\n",
-        )?;
+        must(
+            rt,
+            text.push_str(
+                "[[work]]\nact = \"run\"\nprocessor = 0\nguest = 0\nvcpu = 0\nsteps = 3906\n",
+            ),
+        );
     }
     for at in 0..1024u32 {
-        text.push_str(format!(in alloc; "[[input]]\nguest = 0\nat = {at}\ntext = \"")?.as_str())?;
+        must(
+            rt,
+            text.push_str(must(
+                rt,
+                format!(in alloc; "[[input]]\nguest = 0\nat = {at}\ntext = \""),
+            )
+            .as_str()),
+        );
         for _ in 0..640u32 {
-            text.push('x')?;
+            must(rt, text.push('x'));
         }
-        text.push_str("\"\n")?;
+        must(rt, text.push_str("\"\n"));
     }
-    Ok(text)
+    text
 }
 
 #[test]
-fn long_descriptions(rt: HostRuntime) -> Result<(), Fail> {
+fn long_descriptions(rt: HostRuntime) {
     for (pieces, want) in &[(4096, "ok"), (4097, "range work 4097")] {
-        let text = long(rt.alloc(), *pieces)?;
-        prints(&rt, rt.alloc(), text.as_bytes(), *want)?;
+        let text = long(&rt, rt.alloc(), *pieces);
+        prints(&rt, rt.alloc(), text.as_bytes(), *want);
     }
-    Ok(())
 }
 
 #[test]
-fn hostile_bytes(rt: HostRuntime) -> Result<(), Fail> {
-    prints(&rt, rt.alloc(), b"a = \"\xff\"", "toml")?;
-    let mut brackets = String::from_str(rt.alloc(), "a = ")?;
+fn hostile_bytes(rt: HostRuntime) {
+    prints(&rt, rt.alloc(), b"a = \"\xff\"", "toml");
+    let mut brackets = must(&rt, String::from_str(rt.alloc(), "a = "));
     for _ in 0..1_048_572u32 {
-        brackets.push('[')?;
+        must(&rt, brackets.push('['));
     }
-    prints(&rt, rt.alloc(), brackets.as_bytes(), "toml")?;
+    prints(&rt, rt.alloc(), brackets.as_bytes(), "toml");
     let mut keys = String::new(rt.alloc());
     for i in 0..10_000u32 {
-        keys.push_str(format!(in rt.alloc(); "k{i} = 1\n")?.as_str())?;
+        must(
+            &rt,
+            keys.push_str(must(&rt, format!(in rt.alloc(); "k{i} = 1\n")).as_str()),
+        );
     }
-    prints(&rt, rt.alloc(), keys.as_bytes(), "unknown k0")?;
-    Ok(())
+    prints(&rt, rt.alloc(), keys.as_bytes(), "unknown k0");
 }

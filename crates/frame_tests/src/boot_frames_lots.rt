@@ -1,5 +1,5 @@
 //! Machines with caches and guests, and the frames that each gets, worked out by hand.
-ghost use Rattle.std.specs.Prelude.{◌≡◌, ◌<◌, ◌≤◌, [], All, IfOk, None, length};
+ghost use Rattle.std.specs.Prelude.{◌≡◌, ◌<◌, ◌≤◌, [], All, None, length};
 ghost use Rattle.std.specs.Bool.{OnTrue};
 ghost use Rattle.frame_words.specs.FrameRights.{first_view};
 ghost use Rattle.frame_words.specs.Holders.{IsMade};
@@ -7,10 +7,11 @@ ghost use Rattle.node_frames.specs.Places.{FitsShape};
 ghost use Rattle.node_frames.specs.Layout.{layout_of};
 
 use crate::shapes::shape_of;
+use crate::telling::{gave, must};
 use base_words::{CellId, Frame, FrameNo, NodeId, Shape};
 use boot_frames::{Lot, Need, Shortage, admit, place};
 use frame_words::{Borrow, FrameTable, Holder, Took, borrow, close, take};
-use std::alloc::{AllocError, Global};
+use std::alloc::Global;
 use std::process::Abort;
 
 const A: CellId = CellId(0);
@@ -86,15 +87,18 @@ fn lack(machine: Machine, cache: u32, guests: &'static [(u8, u32)], short: Short
 }
 
 /// The needs of guests.
-fn needs_of(alloc: Global, guests: &[(u8, u32)]) -> Result<Vec<Need>, AllocError> {
+fn needs_of(rt: &impl Abort, alloc: Global, guests: &[(u8, u32)]) -> Vec<Need> {
     let mut needs = Vec::new(alloc);
     for (node, pages) in guests {
-        needs.push(Need {
-            node: NodeId(*node),
-            pages: *pages,
-        })?;
+        must(
+            rt,
+            needs.push(Need {
+                node: NodeId(*node),
+                pages: *pages,
+            }),
+        );
     }
-    Ok(needs)
+    needs
 }
 
 /// Whether each cell is below a count.
@@ -129,47 +133,48 @@ fn is_sound(machine: &Machine, needs: &[Need]) -> bool
         && are_at_home(needs, cells)
 }
 
-fn told(fault: Shortage) -> Result<Short, AllocError> {
+fn told(rt: &impl Abort, fault: Shortage) -> Short {
     match fault {
-        Shortage::Memory => Err(AllocError),
-        Shortage::Cell { cell, needs, has } => Ok(Short::Cell(cell.0, needs, has)),
-        Shortage::Guest { guest, needs, has } => Ok(Short::Guest(guest.0, needs, has)),
+        Shortage::Memory => panic!(rt; "no memory is left"),
+        Shortage::Cell { cell, needs, has } => Short::Cell(cell.0, needs, has),
+        Shortage::Guest { guest, needs, has } => Short::Guest(guest.0, needs, has),
     }
 }
 
 /// Who is short by numbers alone, if anybody is.
 fn counted(
+    rt: &impl Abort,
     alloc: Global,
     machine: &Machine,
     cache: u32,
     needs: &[Need],
-) -> Result<Option<Short>, AllocError>
+) -> Option<Short>
     requires frames { (0 < machine.now.frames) × (machine.now.frames ≤ 16) }
     requires sizes { (0 < length machine.now.cells.now) × (length machine.now.cells.now ≤ 8) × (length machine.now.lends.now ≤ 8) }
     requires cells { All (λ cell. cell.0 < length machine.now.lends.now) machine.now.cells.now }
     requires few { length needs.now ≤ 8 }
     requires needs { All (λ need. need.node.0 < length machine.now.cells.now) needs.now }
 {
-    let shape = shape_of(alloc, machine.frames, machine.cells)?;
+    let shape = shape_of(rt, alloc, machine.frames, machine.cells);
     match admit(alloc, &shape, machine.lends, cache, needs) {
-        Ok(()) => Ok(None),
-        Err(fault) => Ok(Some(told(fault)?)),
+        Ok(()) => None,
+        Err(fault) => Some(told(rt, fault)),
     }
 }
 
 /// The numbers of all frames, lot by lot.
-fn push_numbers(numbers: &mut Vec<u32>, lots: &[Lot]) -> Result<(), AllocError> {
+fn push_numbers(rt: &impl Abort, numbers: &mut Vec<u32>, lots: &[Lot]) {
     for lot in lots {
         for frame in lot.frames.as_slice() {
-            numbers.push(frame.number.0)?;
+            must(rt, numbers.push(frame.number.0));
         }
     }
-    Ok(())
 }
 
 /// Who is short where frames are taken of a new table, if anybody is. If nobody is, the numbers of all frames go to the
 /// list, cache by cache and then guest by guest, and the holder is left with nothing.
 fn taken(
+    rt: &impl Abort,
     alloc: Global,
     table: &FrameTable,
     holder: &mut Holder,
@@ -178,44 +183,46 @@ fn taken(
     cache: u32,
     needs: &[Need],
     numbers: &mut Vec<u32>,
-) -> Result<Option<Short>, AllocError>
+) -> Option<Short>
     requires made { IsMade table.now holder.old }
     requires fits { FitsShape table.now (layout_of shape.now) }
     requires first { (holder.old.view ≡ first_view table.now.terms) × (table.now.terms.first ≡ 0) }
     requires few { length needs.now ≤ 8 }
     requires nodes { All (λ need. need.node.0 < shape.now.nodes) needs.now }
-    ensures rest { IfOk result (λ short. short ≡ None → holder.new.view.holds ≡ []) }
+    ensures rest { result ≡ None → holder.new.view.holds ≡ [] }
     ensures same { holder.new.table ≡ holder.old.table }
 {
     match place(alloc, table, holder, shape, cells, cache, needs) {
         Ok(placed) => {
-            push_numbers(numbers, &placed.caches)?;
-            push_numbers(numbers, &placed.guests)?;
-            Ok(None)
+            push_numbers(rt, numbers, &placed.caches);
+            push_numbers(rt, numbers, &placed.guests);
+            None
         }
-        Err(fault) => Ok(Some(told(fault)?)),
+        Err(fault) => Some(told(rt, fault)),
     }
 }
 
 /// The same of a table of this machine, which ends where nobody is short.
 fn placed(
+    rt: &impl Abort,
     alloc: Global,
     machine: &Machine,
     cache: u32,
     needs: &[Need],
     numbers: &mut Vec<u32>,
-) -> Result<Option<Short>, AllocError>
+) -> Option<Short>
     requires frames { (0 < machine.now.frames) × (machine.now.frames ≤ 16) }
     requires sizes { (0 < length machine.now.cells.now) × (length machine.now.cells.now ≤ 8) × (0 < length machine.now.lends.now) × (length machine.now.lends.now ≤ 8) }
     requires cells { All (λ cell. cell.0 < length machine.now.lends.now) machine.now.cells.now }
     requires few { length needs.now ≤ 8 }
     requires needs { All (λ need. need.node.0 < length machine.now.cells.now) needs.now }
 {
-    let shape = shape_of(alloc, machine.frames, machine.cells)?;
+    let shape = shape_of(rt, alloc, machine.frames, machine.cells);
     let all = machine.cells.len() as u32 * machine.frames;
-    let (table, mut holder) = FrameTable::new(alloc, all, machine.lends, 0)?;
+    let (table, mut holder) = gave(rt, FrameTable::new(alloc, all, machine.lends, 0));
     let cells = machine.lends.len() as u8;
     match taken(
+        rt,
         alloc,
         &table,
         &mut holder,
@@ -224,39 +231,34 @@ fn placed(
         cache,
         needs,
         numbers,
-    )? {
+    ) {
         None => {
             close(table, holder);
-            Ok(None)
+            None
         }
-        Some(short) => Ok(Some(short)),
+        Some(short) => Some(short),
     }
 }
 
 /// Frames are given, or somebody is short, both by numbers and where frames are taken.
-fn check(rt: &impl Abort, alloc: Global, row: &Row) -> Result<(), AllocError> {
-    let needs = needs_of(alloc, row.guests)?;
+fn check(rt: &impl Abort, alloc: Global, row: &Row) {
+    let needs = needs_of(rt, alloc, row.guests);
     assert!(rt; is_sound(&row.machine, &needs));
     let mut numbers = Vec::new(alloc);
-    let placed = placed(alloc, &row.machine, row.cache, &needs, &mut numbers)?;
-    let counted = counted(alloc, &row.machine, row.cache, &needs)?;
-    assert_eq!(rt;
-        (counted, placed, numbers.as_slice()),
-        (row.short, row.short, row.frames)
-    );
-    Ok(())
+    let placed = placed(rt, alloc, &row.machine, row.cache, &needs, &mut numbers);
+    let counted = counted(rt, alloc, &row.machine, row.cache, &needs);
+    assert!(rt; (counted, placed, numbers.as_slice()) == (row.short, row.short, row.frames));
 }
 
 /// Row after row.
-fn check_all(rt: &impl Abort, alloc: Global, rows: &[Row]) -> Result<(), AllocError> {
+fn check_all(rt: &impl Abort, alloc: Global, rows: &[Row]) {
     for row in rows {
-        check(rt, alloc, row)?;
+        check(rt, alloc, row);
     }
-    Ok(())
 }
 
 #[test]
-fn guests_get_frames_by_node_and_number(rt: HostRuntime) -> Result<(), AllocError> {
+fn guests_get_frames_by_node_and_number(rt: HostRuntime) {
     let one = nodes(16, &[A], &[0]);
     let two = nodes(4, &[A, B], &[0, 2]);
     let more = nodes(4, &[A, B], &[0, 9]);
@@ -286,7 +288,7 @@ fn guests_get_frames_by_node_and_number(rt: HostRuntime) -> Result<(), AllocErro
 }
 
 #[test]
-fn guests_get_frames_one_after_another(rt: HostRuntime) -> Result<(), AllocError> {
+fn guests_get_frames_one_after_another(rt: HostRuntime) {
     let two = nodes(4, &[A, B], &[0, 2]);
     let mixed = nodes(2, &[A, B, B], &[0, 1]);
     let ones = &[
@@ -320,7 +322,7 @@ fn guests_get_frames_one_after_another(rt: HostRuntime) -> Result<(), AllocError
 }
 
 #[test]
-fn eight_nodes_lie_in_four_cells(rt: HostRuntime) -> Result<(), AllocError> {
+fn eight_nodes_lie_in_four_cells(rt: HostRuntime) {
     // nodes 0 to 7 of two frames, in cells 0, 1, 2, 3, 0, 1, 2, 3; each cell lends one but cell 2
     let four = nodes(2, &[A, B, C, D, A, B, C, D], &[1, 1, 0, 1]);
     let rows = [
@@ -339,7 +341,7 @@ fn eight_nodes_lie_in_four_cells(rt: HostRuntime) -> Result<(), AllocError> {
 }
 
 #[test]
-fn caches_come_before_guests(rt: HostRuntime) -> Result<(), AllocError> {
+fn caches_come_before_guests(rt: HostRuntime) {
     let one = nodes(4, &[A], &[0]);
     let two = nodes(4, &[A, B], &[0, 2]);
     let lending = nodes(4, &[A, B], &[8, 8]);
@@ -396,7 +398,7 @@ fn asked(table: &FrameTable, holder: &mut Holder) -> ([Took; 3], [Borrow; 3])
 /// Each frame is held under generation 8.
 fn are_of_generation_8(rt: &impl Abort, frames: &[Frame]) {
     for frame in frames {
-        assert_eq!(rt; frame.generation, 8);
+        assert!(rt; frame.generation == 8);
     }
 }
 
@@ -415,21 +417,20 @@ fn holds(rt: &impl Abort, alloc: Global, table: &FrameTable, holder: &mut Holder
     let Ok(placed) = place(alloc, table, holder, shape, 2, 1, &[need]) else {
         panic!(rt; "five frames are free for node 0")
     };
-    assert_eq!(rt; (placed.caches.len(), placed.guests.len()), (2, 1));
+    assert!(rt; (placed.caches.len(), placed.guests.len()) == (2, 1));
     are_of_generation_8(rt, placed.guests[0].frames.as_slice());
     // frame 4, a cache's, and frame 6, a guest's, are held once under generation 8; nobody holds frame 7
     let once = Took::Held(8 * 4_294_967_296 + 1);
     let took = [once, once, Took::Took(8)];
     // of three loans two are lent
     let lent = [Borrow::Lent, Borrow::AtLimit(3), Borrow::AtLimit(0)];
-    assert_eq!(rt; asked(table, holder), (took, lent));
+    assert!(rt; asked(table, holder) == (took, lent));
 }
 
 #[test]
-fn frames_and_loans_are_held(rt: HostRuntime) -> Result<(), AllocError> {
+fn frames_and_loans_are_held(rt: HostRuntime) {
     // frames 0 and 4 for the caches; three of node 0 and two of node 1 for a guest of node 0, where cell 1 lends three
-    let shape = shape_of(rt.alloc(), 4, &[A, B])?;
-    let (table, mut holder) = FrameTable::new(rt.alloc(), 8, &[0, 3], 7)?;
+    let shape = shape_of(&rt, rt.alloc(), 4, &[A, B]);
+    let (table, mut holder) = gave(&rt, FrameTable::new(rt.alloc(), 8, &[0, 3], 7));
     holds(&rt, rt.alloc(), &table, &mut holder, &shape);
-    Ok(())
 }

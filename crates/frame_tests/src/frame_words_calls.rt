@@ -1,16 +1,17 @@
 //! Sequences of one thread, with answers worked out by hand.
-ghost use Rattle.std.specs.Prelude.{◌≡◌, ◌<◌, [], ◌∷◌, length, IfOk};
+ghost use Rattle.std.specs.Prelude.{◌≡◌, ◌<◌, [], ◌∷◌, length};
 ghost use Rattle.frame_words.specs.FrameWords.{frame_word};
 ghost use Rattle.frame_words.specs.Holders.{IsMade};
 ghost use Rattle.frame_words.specs.Splits.{frames_named};
 ghost use Rattle.frame_words.specs.Views.{frame_holds, hold};
 
+use crate::telling::gave;
 use base_words::{CellId, Frame, FrameList, FrameNo, Page};
 use frame_words::{
     Borrow, FrameTable, Holder, Share, Took, borrow, close, give_back, join, repay, share, split,
     take,
 };
-use std::alloc::{AllocError, Global};
+use std::alloc::Global;
 use std::process::Abort;
 
 // A generation's place in a word.
@@ -29,14 +30,10 @@ fn taken_twice(table: &FrameTable, holder: &mut Holder) -> Option<(u32, Took)>
 }
 
 #[test]
-fn a_frame_is_spent_after_its_last_generation(rt: HostRuntime) -> Result<(), AllocError> {
-    let (table, mut holder) = FrameTable::new(rt.alloc(), 1, &[1], 4_294_967_294)?;
+fn a_frame_is_spent_after_its_last_generation(rt: HostRuntime) {
+    let (table, mut holder) = gave(&rt, FrameTable::new(rt.alloc(), 1, &[1], 4_294_967_294));
     let spent = Took::Spent(4_294_967_295 * GENERATION);
-    assert_eq!(rt;
-        taken_twice(&table, &mut holder),
-        Some((4_294_967_295, spent))
-    );
-    Ok(())
+    assert!(rt; taken_twice(&table, &mut holder) == Some((4_294_967_295, spent)));
 }
 
 // Two shares frame 1, which one has taken. What `take` and `share` answer then: as both hold it, as two alone does, as
@@ -88,17 +85,13 @@ fn second(alloc: Global, table: &FrameTable, one: &mut Holder) -> Holder
 }
 
 #[test]
-fn two_holders_share_a_frame(rt: HostRuntime) -> Result<(), AllocError> {
-    let (table, mut one) = FrameTable::new(rt.alloc(), 2, &[1, 0], 0)?;
+fn two_holders_share_a_frame(rt: HostRuntime) {
+    let (table, mut one) = gave(&rt, FrameTable::new(rt.alloc(), 2, &[1, 0], 0));
     takes_first(&rt, &table, &mut one);
     let mut two = second(rt.alloc(), &table, &mut one);
     let gone = [Share::Gone(GENERATION + 1), Share::Gone(GENERATION)];
     let took = [Took::Took(2), Took::Held(2 * GENERATION + 1)];
-    assert_eq!(rt;
-        shared(&rt, &table, &mut one, &mut two),
-        (GENERATION + 2, gone, took)
-    );
-    Ok(())
+    assert!(rt; shared(&rt, &table, &mut one, &mut two) == (GENERATION + 2, gone, took));
 }
 
 // A loan of cell 0 goes to one, is repaid and goes to two, which repays it. The limits that two is told before, of both cells.
@@ -127,56 +120,52 @@ fn lent_in_turn(rt: &impl Abort, table: &FrameTable, one: &mut Holder, two: &mut
 }
 
 #[test]
-fn a_cell_lends_up_to_its_lend(rt: HostRuntime) -> Result<(), AllocError> {
-    let (table, mut one) = FrameTable::new(rt.alloc(), 1, &[1, 0], 0)?;
+fn a_cell_lends_up_to_its_lend(rt: HostRuntime) {
+    let (table, mut one) = gave(&rt, FrameTable::new(rt.alloc(), 1, &[1, 0], 0));
     let mut two = second(rt.alloc(), &table, &mut one);
     let refused = lent_in_turn(&rt, &table, &mut one, &mut two);
     join(&table, &mut one, two);
     close(table, one);
-    assert_eq!(rt; refused, [1, 0]);
-    Ok(())
+    assert!(rt; refused == [1, 0]);
 }
 
 // Frame 0 under this generation.
-fn listed(alloc: Global, generation: u32, page: Box<Page>) -> Result<FrameList, AllocError>
-    ensures { IfOk result (λ frames. frames_named frames ≡ hold (frame_word 0) generation ∷ []) }
+fn listed(rt: &impl Abort, alloc: Global, generation: u32, page: Box<Page>) -> FrameList
+    ensures { frames_named result ≡ hold (frame_word 0) generation ∷ [] }
 {
     let mut frames = Vec::new(alloc);
-    frames.push(Frame {
-        number: FrameNo(0),
-        generation,
-        page,
-    })?;
-    Ok(FrameList::from_vec(frames))
+    gave(
+        rt,
+        frames.push(Frame {
+            number: FrameNo(0),
+            generation,
+            page,
+        }),
+    );
+    FrameList::from_vec(frames)
 }
 
 // The hold of frame 0 goes to a second holder, which gives it back. The generation under which it was taken, and what
 // `take` answers then.
-fn handed_over(
-    rt: &impl Abort,
-    alloc: Global,
-    table: &FrameTable,
-    one: &mut Holder,
-) -> Result<(u32, Took), AllocError>
+fn handed_over(rt: &impl Abort, alloc: Global, table: &FrameTable, one: &mut Holder) -> (u32, Took)
     requires made { IsMade table.now one.old }
     requires frames { table.now.terms.frames ≡ 1 }
 {
     let Took::Took(generation) = take(table, one, FrameNo(0)) else {
         panic!(rt; "the frame is free")
     };
-    let frames = listed(alloc, generation, Page::zeroed(alloc)?)?;
+    let frames = listed(rt, alloc, generation, gave(rt, Page::zeroed(alloc)));
     let mut two = split(table, one, &frames, &[0]);
     give_back(table, &mut two, FrameNo(0));
     join(table, one, two);
-    Ok((generation, take(table, one, FrameNo(0))))
+    (generation, take(table, one, FrameNo(0)))
 }
 
 #[test]
-fn a_named_hold_goes_to_the_new_holder(rt: HostRuntime) -> Result<(), AllocError> {
-    let (table, mut one) = FrameTable::new(rt.alloc(), 1, &[1], 6)?;
-    let answers = handed_over(&rt, rt.alloc(), &table, &mut one)?;
-    assert_eq!(rt; answers, (7, Took::Took(8)));
-    Ok(())
+fn a_named_hold_goes_to_the_new_holder(rt: HostRuntime) {
+    let (table, mut one) = gave(&rt, FrameTable::new(rt.alloc(), 1, &[1], 6));
+    let answers = handed_over(&rt, rt.alloc(), &table, &mut one);
+    assert!(rt; answers == (7, Took::Took(8)));
 }
 
 // What take of frame 1, share of frame 0 and three loans of cell 0 answer to one that is alone.
@@ -194,13 +183,9 @@ fn asks_alone(table: &FrameTable, one: &mut Holder) -> (Took, Share, [Borrow; 3]
 }
 
 #[test]
-fn one_that_is_alone_is_told_the_words(rt: HostRuntime) -> Result<(), AllocError> {
-    let (table, mut one) = FrameTable::new(rt.alloc(), 2, &[2], 4_294_967_295)?;
+fn one_that_is_alone_is_told_the_words(rt: HostRuntime) {
+    let (table, mut one) = gave(&rt, FrameTable::new(rt.alloc(), 2, &[2], 4_294_967_295));
     let last = 4_294_967_295 * GENERATION;
     let loans = [Borrow::Lent, Borrow::Lent, Borrow::AtLimit(2)];
-    assert_eq!(rt;
-        asks_alone(&table, &mut one),
-        (Took::Spent(last), Share::Gone(last), loans)
-    );
-    Ok(())
+    assert!(rt; asks_alone(&table, &mut one) == (Took::Spent(last), Share::Gone(last), loans));
 }

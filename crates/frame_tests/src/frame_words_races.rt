@@ -3,12 +3,13 @@ ghost use Rattle.std.specs.Prelude.{◌≡◌, ◌<◌, [], length};
 ghost use Rattle.std.specs.Thread.{IsSync};
 ghost use Rattle.frame_words.specs.Holders.{IsMade, HasSame};
 
+use crate::telling::gave;
 use base_words::{CellId, FrameList, FrameNo};
 use frame_words::{
     Borrow, FrameTable, Holder, Share, Took, borrow, give_back, join as join_holders, repay, share,
     split, take,
 };
-use std::alloc::{AllocError, Global};
+use std::alloc::Global;
 use std::thread::{Threads, join};
 
 const FRAMES: u32 = 64;
@@ -157,8 +158,8 @@ fn another(alloc: Global, table: &FrameTable, one: &mut Holder) -> Holder
 }
 
 #[test]
-fn four_threads_leave_all_words_free(rt: HostRuntime) -> Result<(), AllocError> {
-    let (table, mut one) = FrameTable::new(rt.alloc(), FRAMES, &[3], 0)?;
+fn four_threads_leave_all_words_free(rt: HostRuntime) {
+    let (table, mut one) = gave(&rt, FrameTable::new(rt.alloc(), FRAMES, &[3], 0));
     let two = another(rt.alloc(), &table, &mut one);
     let three = another(rt.alloc(), &table, &mut one);
     let four = another(rt.alloc(), &table, &mut one);
@@ -167,9 +168,5 @@ fn four_threads_leave_all_words_free(rt: HostRuntime) -> Result<(), AllocError> 
     join_holders(&table, &mut last, three);
     join_holders(&table, &mut last, four);
     let lent = Borrow::Lent;
-    assert_eq!(rt;
-        left(&table, &mut last),
-        (FRAMES, [lent, lent, lent, Borrow::AtLimit(3)])
-    );
-    Ok(())
+    assert!(rt; left(&table, &mut last) == (FRAMES, [lent, lent, lent, Borrow::AtLimit(3)]));
 }

@@ -18,6 +18,8 @@ mod shootdown_notes;
 #[cfg(test)]
 mod shootdown_races;
 #[cfg(test)]
+mod telling;
+#[cfg(test)]
 mod virtual_subnet_packets;
 #[cfg(test)]
 mod wire_queue_packets;

@@ -6,11 +6,11 @@ ghost use Rattle.base_words.specs.declared.events.Event.TheVariants.{Load};
 ghost use Rattle.base_words.specs.declared.events.End.TheVariants.{Budget};
 ghost use Rattle.base_words.specs.declared.moves.MoveKind.TheVariants.{Migrate};
 
+use crate::telling::{gave, must};
 use base_words::{CellId, End, Event, GuestId, MoveKind, NodeId, Ppn, ProcId, ProcSet, VcpuId};
 use shootdown::{
     GuestSeat, Note, ProcToken, SeatList, TokenList, Waiting, agree, close_notes, note, tokens,
 };
-use std::alloc::AllocError;
 use std::process::Abort;
 
 // One note of each kind, of two processors with two guests.
@@ -55,8 +55,8 @@ fn numbers(tokens: &[ProcToken], seats: &[GuestSeat]) -> Option<([ProcId; 2], [G
 }
 
 #[test]
-fn two_processors_note_with_two_guests(rt: HostRuntime) -> Result<(), AllocError> {
-    let (tokens, seats) = tokens(rt.alloc(), 2, 2)?;
+fn two_processors_note_with_two_guests(rt: HostRuntime) {
+    let (tokens, seats) = gave(&rt, tokens(rt.alloc(), 2, 2));
     let mut tokens = tokens.into_vec();
     let mut seats = seats.into_vec();
     let numbers = numbers(&tokens, &seats);
@@ -68,14 +68,13 @@ fn two_processors_note_with_two_guests(rt: HostRuntime) -> Result<(), AllocError
     };
     note_five(&mut zero, &mut one, &mut first, &mut second);
     agree(&mut zero, &mut first);
-    tokens.push(zero)?;
-    tokens.push(one)?;
-    seats.push(first)?;
-    seats.push(second)?;
+    must(&rt, tokens.push(zero));
+    must(&rt, tokens.push(one));
+    must(&rt, seats.push(first));
+    must(&rt, seats.push(second));
     close_notes(TokenList::from_vec(tokens), SeatList::from_vec(seats));
     let (processors, guests) = ([ProcId(0), ProcId(1)], [GuestId(0), GuestId(1)]);
-    assert_eq!(rt; numbers, Some((processors, guests)));
-    Ok(())
+    assert!(rt; numbers == Some((processors, guests)));
 }
 
 // The set of these processors.
@@ -111,13 +110,13 @@ fn left_of(
 // Each row by these tokens.
 fn wait(rt: &impl Abort, tokens: &mut [ProcToken], rows: &[WaitingRow]) {
     for (asked, acknowledged, left) in rows {
-        assert_eq!(rt; left_of(rt, tokens, asked, acknowledged), set_of(left));
+        assert!(rt; left_of(rt, tokens, asked, acknowledged) == set_of(left));
     }
 }
 
 #[test]
-fn those_asked_less_those_that_acknowledged_are_left(rt: HostRuntime) -> Result<(), AllocError> {
-    let (tokens, _) = tokens(rt.alloc(), 16, 1)?;
+fn those_asked_less_those_that_acknowledged_are_left(rt: HostRuntime) {
+    let (tokens, _) = gave(&rt, tokens(rt.alloc(), 16, 1));
     let mut tokens = tokens.into_vec();
     let rows: [WaitingRow; 5] = [
         (&[0, 3, 15], &[3], &[0, 15]),
@@ -127,5 +126,4 @@ fn those_asked_less_those_that_acknowledged_are_left(rt: HostRuntime) -> Result<
         (&[], &[1], &[]),
     ];
     wait(&rt, &mut tokens, &rows);
-    Ok(())
 }

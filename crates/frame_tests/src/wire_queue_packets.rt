@@ -1,5 +1,5 @@
 //! Two guests on one thread: packets whose first word is a number, with what they come to worked out by hand.
-ghost use Rattle.std.specs.Prelude.{◌≡◌, [], ◌∷◌, IfOk, IsSome};
+ghost use Rattle.std.specs.Prelude.{◌≡◌, [], ◌∷◌, IsSome};
 ghost use Rattle.wire_queue.specs.Packets.{packet_of};
 ghost use Rattle.wire_queue.specs.Lines.{Fits};
 ghost use Rattle.wire_queue.specs.Between.{Made, guest_count, line_between};
@@ -7,45 +7,48 @@ ghost use Rattle.wire_queue.specs.PassLists.{IsListOf, sending_to, taking_from};
 ghost use Rattle.wire_queue.specs.declared.packet.WirePacket.{WirePacket};
 
 use crate::shapes::{cells_of, shape_of};
+use crate::telling::gave;
 use base_words::{CellId, FrameNo, GuestId, Page, SharedFrame};
-use std::alloc::{AllocError, Global};
+use std::alloc::Global;
 use std::process::Abort;
 use std::sync::{Arc, Wait};
 use wire_queue::{AllPasses, Body, PassList, Sent, WirePacket, Wires, each_guest_has_its_list};
 
 /// The wires between two guests that live on cell 0, of two nodes of 16 frames, one a cell; and the two lists of passes.
-pub fn two_guests(alloc: Global) -> Result<(Wires, PassList, PassList), AllocError>
-    ensures wires { IfOk result (λ made. guest_count made.0 ≡ 2) }
-    ensures terms { IfOk result (λ made. made.0.terms ≡ record {
+pub fn two_guests(rt: &impl Abort, alloc: Global) -> (Wires, PassList, PassList)
+    ensures wires { guest_count result.0 ≡ 2 }
+    ensures terms { result.0.terms ≡ record {
       frames = 16;
       cells = record { 0 = 0 } ∷ record { 0 = 1 } ∷ [];
       homes = record { 0 = 0 } ∷ record { 0 = 0 } ∷ [];
-    }) }
-    ensures first { IfOk result (λ made. IsListOf made.0 made.1 × (made.1.guest.0 ≡ 0) × IsSome (sending_to made.1 1)) }
-    ensures second { IfOk result (λ made. IsListOf made.0 made.2 × (made.2.guest.0 ≡ 1) × IsSome (taking_from made.2 0)) }
+    } }
+    ensures first { IsListOf result.0 result.1 × (result.1.guest.0 ≡ 0) × IsSome (sending_to result.1 1) }
+    ensures second { IsListOf result.0 result.2 × (result.2.guest.0 ≡ 1) × IsSome (taking_from result.2 0) }
 {
     each_guest_has_its_list();
-    let shape = shape_of(alloc, 16, &[CellId(0), CellId(1)])?;
-    let homes = cells_of(alloc, &[CellId(0), CellId(0)])?;
-    let (wires, passes) = Wires::new(alloc, 2, &shape, &homes)?;
+    let shape = shape_of(rt, alloc, 16, &[CellId(0), CellId(1)]);
+    let homes = cells_of(rt, alloc, &[CellId(0), CellId(0)]);
+    let Ok((wires, passes)) = Wires::new(alloc, 2, &shape, &homes) else {
+        panic!(rt; "no memory is left");
+    };
     let mut lists = passes.into_vec();
     let second = lists.remove(1);
     let first = lists.remove(0);
-    Ok((wires, first, second))
+    (wires, first, second)
 }
 
 /// A packet of guest 0 of four bytes, a number.
-pub fn numbered(alloc: Global, number: u32) -> Result<WirePacket, AllocError>
-    ensures { IfOk result (λ packet. (wires : Made) → Fits (line_between wires 0 1) (packet_of packet)) }
+pub fn numbered(rt: &impl Abort, alloc: Global, number: u32) -> WirePacket
+    ensures { (wires : Made) → Fits (line_between wires 0 1) (packet_of result) }
 {
-    let mut page = Page::zeroed(alloc)?;
+    let mut page = gave(rt, Page::zeroed(alloc));
     page.set_word(0, number);
-    Ok(WirePacket {
+    WirePacket {
         from: GuestId(0),
         length: 4,
         cell: CellId(0),
         body: Body::Plain(page),
-    })
+    }
 }
 
 /// Guest 0 sends a packet to guest 1.
@@ -68,24 +71,24 @@ pub fn take<R: Wait>(rt: &R, wires: &Wires, second: &mut PassList) -> Option<u32
 }
 
 /// How many of the packets numbered below a count the wire accepts.
-fn accepted<R: Wait>(
+fn accepted<R: Abort + Wait>(
     rt: &R,
     alloc: Global,
     wires: &Wires,
     first: &mut PassList,
     count: u32,
-) -> Result<u32, AllocError>
+) -> u32
     requires first { IsListOf wires.now first.old × (first.old.guest.0 ≡ 0) × IsSome (sending_to first.old 1) }
     ensures first { IsListOf wires.now first.new × (first.new.guest.0 ≡ 0) × IsSome (sending_to first.new 1) }
 {
     let mut accepted = 0;
     for number in 0..count {
-        let packet = numbered(alloc, number)?;
+        let packet = numbered(rt, alloc, number);
         if let Sent::Ok = send(rt, wires, first, packet) {
             accepted += 1;
         }
     }
-    Ok(accepted)
+    accepted
 }
 
 /// How many packets stand on the wire, of those that are numbered from 0 on in order.
@@ -102,34 +105,28 @@ fn taken<R: Wait>(rt: &R, wires: &Wires, second: &mut PassList) -> u32
 }
 
 /// Ends the wires with both lists.
-pub fn end(alloc: Global, wires: Wires, first: PassList, second: PassList) -> Result<(), AllocError>
+pub fn end(rt: &impl Abort, alloc: Global, wires: Wires, first: PassList, second: PassList)
     requires wires { guest_count wires ≡ 2 }
     requires first { IsListOf wires first × (first.guest.0 ≡ 0) }
     requires second { IsListOf wires second × (second.guest.0 ≡ 1) }
 {
     let mut lists = Vec::new(alloc);
-    lists.push(first)?;
-    lists.push(second)?;
+    gave(rt, lists.push(first));
+    gave(rt, lists.push(second));
     wires.close(AllPasses::from_vec(lists));
-    Ok(())
 }
 
 /// How many of 64 packets the wire accepts, and the number of the next one, which comes back.
-fn filled<R: Abort + Wait>(
-    rt: &R,
-    alloc: Global,
-    wires: &Wires,
-    first: &mut PassList,
-) -> Result<(u32, u32), AllocError>
+fn filled<R: Abort + Wait>(rt: &R, alloc: Global, wires: &Wires, first: &mut PassList) -> (u32, u32)
     requires first { IsListOf wires.now first.old × (first.old.guest.0 ≡ 0) × IsSome (sending_to first.old 1) }
     ensures first { IsListOf wires.now first.new × (first.new.guest.0 ≡ 0) × IsSome (sending_to first.new 1) }
 {
-    let accepted = accepted(rt, alloc, wires, first, 64)?;
-    let last = numbered(alloc, 64)?;
+    let accepted = accepted(rt, alloc, wires, first, 64);
+    let last = numbered(rt, alloc, 64);
     let Sent::Full(back) = send(rt, wires, first, last) else {
         panic!(rt; "64 stand on the wire")
     };
-    Ok((accepted, back.page().word_at(0)))
+    (accepted, back.page().word_at(0))
 }
 
 /// How many packets stand on the wire in order, and the number of one more, if there is one.
@@ -141,67 +138,60 @@ fn emptied<R: Wait>(rt: &R, wires: &Wires, second: &mut PassList) -> (u32, Optio
 }
 
 #[test]
-fn the_65th_packet_is_refused(rt: HostRuntime) -> Result<(), AllocError> {
-    let (wires, mut first, mut second) = two_guests(rt.alloc())?;
-    let filled = filled(&rt, rt.alloc(), &wires, &mut first)?;
+fn the_65th_packet_is_refused(rt: HostRuntime) {
+    let (wires, mut first, mut second) = two_guests(&rt, rt.alloc());
+    let filled = filled(&rt, rt.alloc(), &wires, &mut first);
     let has_taken = second.has_taken(&rt, &wires, &mut first);
     let emptied = emptied(&rt, &wires, &mut second);
-    end(rt.alloc(), wires, first, second)?;
-    assert_eq!(rt; (filled, has_taken, emptied), ((64, 64), false, (64, None)));
-    Ok(())
+    end(&rt, rt.alloc(), wires, first, second);
+    assert!(rt; (filled, has_taken, emptied) == ((64, 64), false, (64, None)));
 }
 
 /// A packet of guest 0 that is a whole page: frame 3, which lies on cell 0, under generation 7.
-fn whole(alloc: Global, first: u8) -> Result<WirePacket, AllocError>
-    ensures { IfOk result (λ packet. (wires : Made) → wires.terms ≡ record {
+fn whole(rt: &impl Abort, alloc: Global, first: u8) -> WirePacket
+    ensures { (wires : Made) → wires.terms ≡ record {
       frames = 16;
       cells = record { 0 = 0 } ∷ record { 0 = 1 } ∷ [];
       homes = record { 0 = 0 } ∷ record { 0 = 0 } ∷ [];
     }
-        → Fits (line_between wires 0 1) (packet_of packet)) }
+        → Fits (line_between wires 0 1) (packet_of result) }
 {
-    let mut page = Page::zeroed(alloc)?;
+    let mut page = gave(rt, Page::zeroed(alloc));
     page.set_byte(0, first);
     let frame = SharedFrame {
         number: FrameNo(3),
         generation: 7,
-        page: Arc::new(alloc, page)?,
+        page: gave(rt, Arc::new(alloc, page)),
     };
-    Ok(WirePacket {
+    WirePacket {
         from: GuestId(0),
         length: 4096,
         cell: CellId(0),
         body: Body::Whole(frame),
-    })
+    }
 }
 
 /// The packet is the whole page, whose first byte is 5.
 fn is_whole(rt: &impl Abort, packet: &WirePacket) {
-    assert_eq!(rt;
-        (packet.from, packet.length, packet.cell),
-        (GuestId(0), 4096, CellId(0))
-    );
+    assert!(rt; (packet.from, packet.length, packet.cell) == (GuestId(0), 4096, CellId(0)));
     let Body::Whole(frame) = &packet.body else {
         panic!(rt; "the first is whole")
     };
-    assert_eq!(rt;
-        (frame.number, frame.generation, frame.page.byte_at(0)),
-        (FrameNo(3), 7, 5)
-    );
+    assert!(rt; (frame.number, frame.generation, frame.page.byte_at(0)) == (FrameNo(3), 7, 5));
 }
 
 /// The packet is a copy of four bytes, a number.
 fn is_copy(rt: &impl Abort, packet: &WirePacket, number: u32) {
-    assert_eq!(rt; (packet.length, packet.page().word_at(0)), (4, number));
+    assert!(rt; (packet.length, packet.page().word_at(0)) == (4, number));
     assert!(rt; matches!(packet.body, Body::Plain(_)));
 }
 
 #[test]
-fn a_whole_page_and_a_copy_go_in_order(rt: HostRuntime) -> Result<(), AllocError> {
-    let (wires, mut first, mut second) = two_guests(rt.alloc())?;
-    let packet = whole(rt.alloc(), 5)?;
+fn a_whole_page_and_a_copy_go_in_order(rt: HostRuntime) {
+    let (wires, mut first, mut second) = two_guests(&rt, rt.alloc());
+    let packet = whole(&rt, rt.alloc(), 5);
     assert!(rt; matches!(send(&rt, &wires, &mut first, packet), Sent::Ok));
-    let packet = numbered(rt.alloc(), 6)?;
+    let packet = numbered(&rt, rt.alloc(), 6);
     assert!(rt; matches!(send(&rt, &wires, &mut first, packet), Sent::Ok));
     let Some(packet) = second.receive(&rt, &wires, GuestId(0)) else {
         panic!(rt; "two stand on the wire")
@@ -212,6 +202,5 @@ fn a_whole_page_and_a_copy_go_in_order(rt: HostRuntime) -> Result<(), AllocError
     };
     is_copy(&rt, &packet, 6);
     assert!(rt; second.has_taken(&rt, &wires, &mut first));
-    end(rt.alloc(), wires, first, second)?;
-    Ok(())
+    end(&rt, rt.alloc(), wires, first, second);
 }

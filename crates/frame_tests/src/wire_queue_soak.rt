@@ -1,12 +1,13 @@
 //! Two threads, of which one sends numbered packets and the other takes them: none is lost, and they come in order.
-ghost use Rattle.std.specs.Prelude.{◌≡◌, IfOk, IsSome};
+ghost use Rattle.std.specs.Prelude.{◌≡◌, IsSome};
 ghost use Rattle.wire_queue.specs.Packets.{packet_of};
 ghost use Rattle.wire_queue.specs.Lines.{Fits};
 ghost use Rattle.wire_queue.specs.Between.{guest_count, line_between};
 ghost use Rattle.wire_queue.specs.PassLists.{IsListOf, sending_to, taking_from};
 
 use crate::wire_queue_packets::{end, numbered, send, take, two_guests};
-use std::alloc::{AllocError, Global};
+use std::alloc::Global;
+use std::process::Abort;
 use std::sync::Wait;
 use std::thread;
 use std::thread::{Threads, join};
@@ -32,20 +33,15 @@ fn deliver<R: Wait>(rt: &R, wires: &Wires, first: &mut PassList, packet: WirePac
 }
 
 /// Sends all packets.
-fn send_all<R: Wait>(
-    rt: &R,
-    alloc: Global,
-    wires: &Wires,
-    mut first: PassList,
-) -> Result<PassList, AllocError>
+fn send_all<R: Abort + Wait>(rt: &R, alloc: Global, wires: &Wires, mut first: PassList) -> PassList
     requires { IsListOf wires.now first × (first.guest.0 ≡ 0) × IsSome (sending_to first 1) }
-    ensures { IfOk result (λ first. IsListOf wires.now first × (first.guest.0 ≡ 0)) }
+    ensures { IsListOf wires.now result × (result.guest.0 ≡ 0) }
 {
     for number in 0..PACKETS {
-        let packet = numbered(alloc, number)?;
+        let packet = numbered(rt, alloc, number);
         deliver(rt, wires, &mut first, packet);
     }
-    Ok(first)
+    first
 }
 
 /// Takes packets until all have come or one comes out of order; how many came in order.
@@ -68,38 +64,37 @@ fn take_all<R: Wait>(rt: &R, wires: &Wires, mut second: PassList) -> (PassList, 
 }
 
 /// Sends on one thread what another takes; how many came in order.
-fn exchange<R: Threads + Wait + Sync>(
+fn exchange<R: Abort + Threads + Wait + Sync>(
     rt: &R,
     alloc: Global,
     wires: &Wires,
     first: PassList,
     second: PassList,
-) -> Result<(PassList, PassList, u32), AllocError>
+) -> (PassList, PassList, u32)
     requires first { IsListOf wires.now first × (first.guest.0 ≡ 0) × IsSome (sending_to first 1) }
     requires second { IsListOf wires.now second × (second.guest.0 ≡ 1) × IsSome (taking_from second 0) }
-    ensures first { IfOk result (λ made. IsListOf wires.now made.0 × (made.0.guest.0 ≡ 0)) }
-    ensures second { IfOk result (λ made. IsListOf wires.now made.1 × (made.1.guest.0 ≡ 1) × IsSome (taking_from made.1 0)) }
+    ensures first { IsListOf wires.now result.0 × (result.0.guest.0 ≡ 0) }
+    ensures second { IsListOf wires.now result.1 × (result.1.guest.0 ≡ 1) × IsSome (taking_from result.1 0) }
 {
     let (sent, (second, count)) = join(
         rt,
-        move || -> Result<PassList, AllocError>
+        move || -> PassList
             requires { IsListOf wires.now first × (first.guest.0 ≡ 0) × IsSome (sending_to first 1) }
-            ensures { IfOk result (λ first. IsListOf wires.entry.now first × (first.guest.0 ≡ 0)) }
+            ensures { IsListOf wires.entry.now result × (result.guest.0 ≡ 0) }
         { send_all(rt, alloc, wires, first) },
         move || -> (PassList, u32)
             requires { IsListOf wires.now second × (second.guest.0 ≡ 1) × IsSome (taking_from second 0) }
             ensures { IsListOf wires.entry.now result.0 × (result.0.guest.0 ≡ 1) × IsSome (taking_from result.0 0) }
         { take_all(rt, wires, second) },
     );
-    Ok((sent?, second, count))
+    (sent, second, count)
 }
 
 #[test]
-fn all_packets_come_in_order(rt: HostRuntime) -> Result<(), AllocError> {
-    let (wires, first, second) = two_guests(rt.alloc())?;
-    let (mut first, mut second, count) = exchange(&rt, rt.alloc(), &wires, first, second)?;
-    assert_eq!(rt; count, PACKETS);
+fn all_packets_come_in_order(rt: HostRuntime) {
+    let (wires, first, second) = two_guests(&rt, rt.alloc());
+    let (mut first, mut second, count) = exchange(&rt, rt.alloc(), &wires, first, second);
+    assert!(rt; count == PACKETS);
     assert!(rt; second.has_taken(&rt, &wires, &mut first));
-    end(rt.alloc(), wires, first, second)?;
-    Ok(())
+    end(&rt, rt.alloc(), wires, first, second);
 }

@@ -9,6 +9,7 @@ ghost use Rattle.guest_tests.specs.Ready.{HasSize, IsReady, AreReady};
 use crate::guest_lock_turns::Started;
 use crate::lane::{Lane, Size};
 use crate::pair::Pair;
+use crate::telling::gave;
 use block_caches::Caches;
 use frame_words::{FrameTable, Holder};
 use guest_boot::{Booted, SourceList, boot, sources_are_their_guests};
@@ -17,6 +18,7 @@ use guest_core::Guest;
 use machine_desc::{Machine, Plan};
 use shootdown::ProcToken;
 use std::alloc::{AllocError, Global};
+use std::process::Abort;
 use wire_queue::Wires;
 
 /// Two guests of three pages and one virtual processor each on one node, and a processor for each.
@@ -235,25 +237,25 @@ fn two_of(
     })
 }
 
-/// The two guests of a description at their starts. An error is want of memory, or a description that can't be run.
-fn two_ready(
-    alloc: Global,
-    text: &str,
-    first: &[u32],
-    second: &[u32],
-) -> Result<TwoReady, AllocError>
-    ensures first { IfOk result (λ two. IsReady two.first.size.vcpus two.first.size.pages two.first.size.nodes (record { table = two.table; wires = two.wires; indexes = two.caches.indexes.items }) 0 two.first.guest two.first.token) }
-    ensures second { IfOk result (λ two. IsReady two.second.size.vcpus two.second.size.pages two.second.size.nodes (record { table = two.table; wires = two.wires; indexes = two.caches.indexes.items }) 1 two.second.guest two.second.token) }
-    ensures made { IfOk result (λ two. IsMade two.table two.holder) }
-    ensures frames { IfOk result (λ two. two.table.terms.frames ≡ two.frames) }
+/// The two guests of a description at their starts.
+fn two_ready(rt: &impl Abort, alloc: Global, text: &str, first: &[u32], second: &[u32]) -> TwoReady
+    ensures first { IsReady result.first.size.vcpus result.first.size.pages result.first.size.nodes (record { table = result.table; wires = result.wires; indexes = result.caches.indexes.items }) 0 result.first.guest result.first.token }
+    ensures second { IsReady result.second.size.vcpus result.second.size.pages result.second.size.nodes (record { table = result.table; wires = result.wires; indexes = result.caches.indexes.items }) 1 result.second.guest result.second.token }
+    ensures made { IsMade result.table result.holder }
+    ensures frames { result.table.terms.frames ≡ result.frames }
 {
-    let (machine, plan, sources) = described(alloc, text, first, second)?;
+    let (machine, plan, sources) = gave(rt, described(alloc, text, first, second));
     let (Some(one), Some(other)) = (size_at(&machine, 0), size_at(&machine, 1)) else {
-        return Err(AllocError);
+        panic!(rt; "the guests are not there");
     };
-    let booted = booted(alloc, &machine, &plan, sources)?;
+    let Ok(booted) = booted(alloc, &machine, &plan, sources) else {
+        panic!(rt; "no memory is left");
+    };
     let frames = frames_of(&machine, &plan);
-    two_of(&machine, booted, frames, one, other).ok_or(AllocError)
+    let Some(two) = two_of(&machine, booted, frames, one, other) else {
+        panic!(rt; "fewer were booted");
+    };
+    two
 }
 
 /// Each guest with the token of its processor, for calls without a lock.
@@ -288,23 +290,24 @@ fn started_of(two: TwoReady) -> Started
 }
 
 /// The two guests at their starts, each with the token of its processor.
-pub(crate) fn two_guests(alloc: Global, first: &[u32], second: &[u32]) -> Result<Pair, AllocError> {
-    guests_of(alloc, TWO_GUESTS, first, second)
+pub(crate) fn two_guests(rt: &impl Abort, alloc: Global, first: &[u32], second: &[u32]) -> Pair {
+    guests_of(rt, alloc, TWO_GUESTS, first, second)
 }
 
 /// The same of a description of two guests.
 pub(crate) fn guests_of(
+    rt: &impl Abort,
     alloc: Global,
     text: &str,
     first: &[u32],
     second: &[u32],
-) -> Result<Pair, AllocError> {
-    let two = two_ready(alloc, text, first, second)?;
-    Ok(pair_of(two))
+) -> Pair {
+    let two = two_ready(rt, alloc, text, first, second);
+    pair_of(two)
 }
 
 /// The first of two guests at its start, with this program, and what it shares with the other one.
-pub(crate) fn first_guest(alloc: Global, program: &[u32]) -> Result<Started, AllocError> {
-    let two = two_ready(alloc, TWO_GUESTS, program, program)?;
-    Ok(started_of(two))
+pub(crate) fn first_guest(rt: &impl Abort, alloc: Global, program: &[u32]) -> Started {
+    let two = two_ready(rt, alloc, TWO_GUESTS, program, program);
+    started_of(two)
 }

@@ -1,14 +1,14 @@
 //! A guest's own calls, one after another: what each answers, and what it leaves in the journal.
 use crate::booting::two_guests;
 use crate::pair::{Pair, Side};
+use crate::telling::{must, same};
 use base_words::{CellId, End, Event, Ppn, ProcId, VcpuId};
 use event_journal::Journal;
 use guest_cases::PRINTS_A;
 use guest_core::{Loaded, Packeted, Turn};
-use std::alloc::{AllocError, Global};
+use std::alloc::Global;
 use std::process::Abort;
 use std::sync::Wait;
-use std::test::Fail;
 
 /// What a turn did, without its accesses and without who is waited for.
 #[derive(Clone, Copy, Debug, PartialEq, Eq)]
@@ -47,12 +47,11 @@ pub(crate) fn try_turns<R: Abort + Wait>(
     pair: &mut Pair,
     side: Side,
     answers: &[Did],
-) -> Result<(), AllocError> {
+) {
     for answer in answers {
-        let turn = pair.turn(rt, alloc, side)?;
-        assert_eq!(rt; kind_of(turn), *answer, "of {side:?}");
+        let turn = must(rt, pair.turn(rt, alloc, side));
+        same(rt, kind_of(turn), *answer, side);
     }
-    Ok(())
 }
 
 /// A journal has these entries, each so many times in a row.
@@ -62,18 +61,14 @@ pub(crate) fn try_journal<R: Abort>(rt: &R, journal: &Journal, expected: &[(Even
         let Some(run) = runs.next() else {
             panic!(rt; "{event:?} is missing");
         };
-        assert_eq!(rt; run.event, *event, "in its place");
-        assert_eq!(rt; run.count, *count, "of {event:?}");
+        assert!(rt; run.event == *event, "in its place");
+        same(rt, run.count, *count, event);
     }
     assert!(rt; runs.next().is_none(), "there are more");
 }
 
 /// Makes all turns of the first guest, and tries what it uses and loads before and after.
-fn run_to_its_halt<R: Abort + Wait>(
-    rt: &R,
-    alloc: Global,
-    pair: &mut Pair,
-) -> Result<(), AllocError> {
+fn run_to_its_halt<R: Abort + Wait>(rt: &R, alloc: Global, pair: &mut Pair) {
     assert!(rt;
         pair.first.guest.uses(CellId(0)),
         "its frames lie on the cell"
@@ -82,7 +77,10 @@ fn run_to_its_halt<R: Abort + Wait>(
         !pair.first.guest.uses(CellId(1)),
         "and nothing lies on another"
     );
-    assert_eq!(rt; pair.load(Side::First)?, Loaded::Done, "it is free");
+    assert!(rt;
+        must(rt, pair.load(Side::First)) == Loaded::Done,
+        "it is free"
+    );
     try_turns(
         rt,
         alloc,
@@ -98,10 +96,9 @@ fn run_to_its_halt<R: Abort + Wait>(
             Did::Ended(End::Halted),
             Did::Ended(End::Halted),
         ],
-    )?;
-    assert_eq!(rt;
-        pair.first.guest.end(),
-        Some(End::Halted),
+    );
+    assert!(rt;
+        pair.first.guest.end() == Some(End::Halted),
         "its one virtual processor halted"
     );
     assert!(rt;
@@ -109,20 +106,18 @@ fn run_to_its_halt<R: Abort + Wait>(
         "who has ended uses nothing"
     );
     pair.unload(Side::First);
-    assert_eq!(rt;
-        pair.load(Side::First)?,
-        Loaded::Ended(End::Halted),
+    assert!(rt;
+        must(rt, pair.load(Side::First)) == Loaded::Ended(End::Halted),
         "once it has ended"
     );
-    Ok(())
 }
 
 #[test]
-fn a_guest_runs_turn_by_turn(rt: HostRuntime) -> Result<(), Fail> {
+fn a_guest_runs_turn_by_turn(rt: HostRuntime) {
     let alloc = rt.alloc();
-    let mut pair = two_guests(alloc, &PRINTS_A, &PRINTS_A)?;
-    let made = run_to_its_halt(&rt, alloc, &mut pair);
-    let (record, _) = pair.finish_after(made)?;
+    let mut pair = two_guests(&rt, alloc, &PRINTS_A, &PRINTS_A);
+    run_to_its_halt(&rt, alloc, &mut pair);
+    let (record, _) = must(&rt, pair.finish());
     let (processor, vcpu) = (ProcId(0), VcpuId(0));
     try_journal(
         &rt,
@@ -136,41 +131,43 @@ fn a_guest_runs_turn_by_turn(rt: HostRuntime) -> Result<(), Fail> {
             (Event::Unload(processor), 1),
         ],
     );
-    assert_eq!(&rt;
-        record.console.as_slice(),
-        b"A".as_slice(),
+    assert!(&rt;
+        record.console.as_slice() == b"A".as_slice(),
         "what it printed"
     );
-    assert_eq!(&rt; record.end, End::Halted, "how it ended");
-    Ok(())
+    assert!(&rt; record.end == End::Halted, "how it ended");
 }
 
 /// Loads the second guest twice, with some turns each time.
-fn run_twice<R: Abort + Wait>(rt: &R, alloc: Global, pair: &mut Pair) -> Result<(), AllocError> {
-    assert_eq!(rt;
-        pair.packet_in(rt, alloc, Side::Second)?,
-        Packeted::NotArmed,
+fn run_twice<R: Abort + Wait>(rt: &R, alloc: Global, pair: &mut Pair) {
+    assert!(rt;
+        must(rt, pair.packet_in(rt, alloc, Side::Second)) == Packeted::NotArmed,
         "no page is armed"
     );
-    assert_eq!(rt; pair.load(Side::Second)?, Loaded::Done, "it is free");
+    assert!(rt;
+        must(rt, pair.load(Side::Second)) == Loaded::Done,
+        "it is free"
+    );
     try_turns(
         rt,
         alloc,
         pair,
         Side::Second,
         &[Did::Refilled, Did::Direct, Did::Direct],
-    )?;
+    );
     pair.unload(Side::Second);
-    assert_eq!(rt; pair.load(Side::Second)?, Loaded::Done, "it goes on");
+    assert!(rt;
+        must(rt, pair.load(Side::Second)) == Loaded::Done,
+        "it goes on"
+    );
     try_turns(
         rt,
         alloc,
         pair,
         Side::Second,
         &[Did::Refilled, Did::Direct, Did::Emulated],
-    )?;
+    );
     pair.unload(Side::Second);
-    Ok(())
 }
 
 /// The journal of a guest that was loaded twice.
@@ -195,22 +192,19 @@ fn try_two_loads<R: Abort>(rt: &R, journal: &Journal) {
 }
 
 #[test]
-fn a_guest_that_goes_on_is_ended_by_the_plan(rt: HostRuntime) -> Result<(), Fail> {
+fn a_guest_that_goes_on_is_ended_by_the_plan(rt: HostRuntime) {
     let alloc = rt.alloc();
-    let mut pair = two_guests(alloc, &PRINTS_A, &PRINTS_A)?;
-    let made = run_twice(&rt, alloc, &mut pair);
-    let (untouched, left) = pair.finish_after(made)?;
+    let mut pair = two_guests(&rt, alloc, &PRINTS_A, &PRINTS_A);
+    run_twice(&rt, alloc, &mut pair);
+    let (untouched, left) = must(&rt, pair.finish());
     try_journal(&rt, &untouched.journal, &[(Event::End(End::Budget), 1)]);
-    assert_eq!(&rt;
-        untouched.console.as_slice(),
-        b"".as_slice(),
+    assert!(&rt;
+        untouched.console.as_slice() == b"".as_slice(),
         "it made no step"
     );
     try_two_loads(&rt, &left.record.journal);
-    assert_eq!(&rt;
-        left.record.console.as_slice(),
-        b"A".as_slice(),
+    assert!(&rt;
+        left.record.console.as_slice() == b"A".as_slice(),
         "what it printed"
     );
-    Ok(())
 }

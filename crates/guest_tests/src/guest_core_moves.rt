@@ -2,13 +2,13 @@
 use crate::booting::{ON_TWO_NODES, guests_of};
 use crate::guest_core_calls::{Did, try_journal, try_turns};
 use crate::pair::{Pair, Side};
+use crate::telling::must;
 use base_words::{By, End, Event, MoveKind, NodeId, Ppn, ProcId, ProcSet, VcpuId};
 use event_journal::Journal;
 use guest_core::{Asked, Loaded, Ready};
-use std::alloc::{AllocError, Global};
+use std::alloc::Global;
 use std::process::Abort;
 use std::sync::Wait;
-use std::test::Fail;
 
 /// LUI 8, C000; ORI 8, 8, 1000; ADDIU 9, 0, 5A; SW 9, 0(8); LW 10, 0(8); LUI 16, CFFF; ORI 16, 16, F000; SW 10, 0(16); SW 0, 4(16): puts
 /// Z on page 1, reads it back, prints it, and halts.
@@ -30,13 +30,15 @@ const PAGE: Ppn = Ppn(1);
 const NODE: NodeId = NodeId(1);
 
 /// Begins a move of the page once it is mapped.
-fn begin_a_move<R: Abort + Wait>(rt: &R, alloc: Global, pair: &mut Pair) -> Result<(), AllocError> {
-    assert_eq!(rt;
-        pair.finish_ready(Side::First, PAGE),
-        Ready::NoMove,
+fn begin_a_move<R: Abort + Wait>(rt: &R, alloc: Global, pair: &mut Pair) {
+    assert!(rt;
+        pair.finish_ready(Side::First, PAGE) == Ready::NoMove,
         "at the start"
     );
-    assert_eq!(rt; pair.load(Side::First)?, Loaded::Done, "it is free");
+    assert!(rt;
+        must(rt, pair.load(Side::First)) == Loaded::Done,
+        "it is free"
+    );
     let before = [
         Did::Refilled,
         Did::Direct,
@@ -45,27 +47,23 @@ fn begin_a_move<R: Abort + Wait>(rt: &R, alloc: Global, pair: &mut Pair) -> Resu
         Did::Refilled,
         Did::Direct,
     ];
-    try_turns(rt, alloc, pair, Side::First, &before)?;
-    assert_eq!(rt;
-        pair.ask(alloc, Side::First, PAGE, NODE)?,
-        Asked::Begun,
+    try_turns(rt, alloc, pair, Side::First, &before);
+    assert!(rt;
+        must(rt, pair.ask(alloc, Side::First, PAGE, NODE)) == Asked::Begun,
         "once it is mapped"
     );
-    Ok(())
 }
 
 /// Tries who waits for whom while the page moves.
-fn try_waiting<R: Abort>(rt: &R, alloc: Global, pair: &mut Pair) -> Result<(), AllocError> {
+fn try_waiting<R: Abort>(rt: &R, alloc: Global, pair: &mut Pair) {
     let processor = ProcId(0);
     let waiting = ProcSet::empty().with(processor);
-    assert_eq!(rt;
-        pair.ask(alloc, Side::First, PAGE, NODE)?,
-        Asked::Busy(waiting),
+    assert!(rt;
+        must(rt, pair.ask(alloc, Side::First, PAGE, NODE)) == Asked::Busy(waiting),
         "while it moves"
     );
-    assert_eq!(rt;
-        pair.finish_ready(Side::First, PAGE),
-        Ready::Waits(waiting),
+    assert!(rt;
+        pair.finish_ready(Side::First, PAGE) == Ready::Waits(waiting),
         "before the turn"
     );
     assert!(rt;
@@ -76,16 +74,14 @@ fn try_waiting<R: Abort>(rt: &R, alloc: Global, pair: &mut Pair) -> Result<(), A
         !pair.first.guest.must_wait(processor, PAGE),
         "who is waited for"
     );
-    Ok(())
 }
 
 /// Ends the move by the guest's own turns, and goes on to the guest's end.
-fn end_the_move<R: Abort + Wait>(rt: &R, alloc: Global, pair: &mut Pair) -> Result<(), AllocError> {
+fn end_the_move<R: Abort + Wait>(rt: &R, alloc: Global, pair: &mut Pair) {
     let ends = [Did::Acked(PAGE), Did::Finished(PAGE)];
-    try_turns(rt, alloc, pair, Side::First, &ends)?;
-    assert_eq!(rt;
-        pair.ask(alloc, Side::First, PAGE, NODE)?,
-        Asked::Skipped,
+    try_turns(rt, alloc, pair, Side::First, &ends);
+    assert!(rt;
+        must(rt, pair.ask(alloc, Side::First, PAGE, NODE)) == Asked::Skipped,
         "it lies there"
     );
     let after = [
@@ -97,24 +93,18 @@ fn end_the_move<R: Abort + Wait>(rt: &R, alloc: Global, pair: &mut Pair) -> Resu
         Did::Emulated,
         Did::Ended(End::Halted),
     ];
-    try_turns(rt, alloc, pair, Side::First, &after)?;
-    assert_eq!(rt;
-        pair.ask(alloc, Side::First, PAGE, NODE)?,
-        Asked::Skipped,
+    try_turns(rt, alloc, pair, Side::First, &after);
+    assert!(rt;
+        must(rt, pair.ask(alloc, Side::First, PAGE, NODE)) == Asked::Skipped,
         "after the end"
     );
     pair.unload(Side::First);
-    Ok(())
 }
 
 /// The whole way of the page.
-fn move_the_page<R: Abort + Wait>(
-    rt: &R,
-    alloc: Global,
-    pair: &mut Pair,
-) -> Result<(), AllocError> {
-    begin_a_move(rt, alloc, pair)?;
-    try_waiting(rt, alloc, pair)?;
+fn move_the_page<R: Abort + Wait>(rt: &R, alloc: Global, pair: &mut Pair) {
+    begin_a_move(rt, alloc, pair);
+    try_waiting(rt, alloc, pair);
     end_the_move(rt, alloc, pair)
 }
 
@@ -153,17 +143,15 @@ fn try_moves<R: Abort>(rt: &R, journal: &Journal) {
 /// A move begins while the processor's TLB names the page, and waits for it; the processor acknowledges it by its next turn, another turn ends
 /// it, and the processor comes to the page anew. A second move to the same node is skipped, and so is one after the end.
 #[test]
-fn a_page_moves_between_two_steps(rt: HostRuntime) -> Result<(), Fail> {
+fn a_page_moves_between_two_steps(rt: HostRuntime) {
     let alloc = rt.alloc();
-    let mut pair = guests_of(alloc, ON_TWO_NODES, &USES_PAGE_1, &USES_PAGE_1)?;
-    let made = move_the_page(&rt, alloc, &mut pair);
-    let (record, _) = pair.finish_after(made)?;
+    let mut pair = guests_of(&rt, alloc, ON_TWO_NODES, &USES_PAGE_1, &USES_PAGE_1);
+    move_the_page(&rt, alloc, &mut pair);
+    let (record, _) = must(&rt, pair.finish());
     try_moves(&rt, &record.journal);
-    assert_eq!(&rt; record.skips.len(), 2, "what was skipped");
-    assert_eq!(&rt;
-        record.console.as_slice(),
-        b"Z".as_slice(),
+    assert!(&rt; record.skips.len() == 2, "what was skipped");
+    assert!(&rt;
+        record.console.as_slice() == b"Z".as_slice(),
         "what it printed"
     );
-    Ok(())
 }

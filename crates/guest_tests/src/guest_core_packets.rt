@@ -2,12 +2,12 @@
 use crate::booting::two_guests;
 use crate::guest_core_calls::{Did, kind_of, try_turns};
 use crate::pair::{Left, Pair, Side};
+use crate::telling::{must, same};
 use base_words::{End, GuestId};
 use guest_core::{Loaded, Packeted};
-use std::alloc::{AllocError, Global};
+use std::alloc::Global;
 use std::process::Abort;
 use std::sync::Wait;
-use std::test::Fail;
 
 /// Sends the numbers 1 to 65 to guest 1, each as a packet of 4 bytes from page 1, prints A and halts.
 const SENDS_65: [u32; 17] = [
@@ -47,17 +47,12 @@ const ARMS: [u32; 6] = [
 const TURNS: u32 = 1000;
 
 /// Makes turns until the guest has ended.
-fn run_to_its_end<R: Abort + Wait>(
-    rt: &R,
-    alloc: Global,
-    pair: &mut Pair,
-    side: Side,
-) -> Result<(), AllocError> {
-    assert_eq!(rt; pair.load(side)?, Loaded::Done, "it is free");
+fn run_to_its_end<R: Abort + Wait>(rt: &R, alloc: Global, pair: &mut Pair, side: Side) {
+    assert!(rt; must(rt, pair.load(side)) == Loaded::Done, "it is free");
     for _ in 0..TURNS {
-        if kind_of(pair.turn(rt, alloc, side)?) == Did::Ended(End::Halted) {
+        if kind_of(must(rt, pair.turn(rt, alloc, side))) == Did::Ended(End::Halted) {
             pair.unload(side);
-            return Ok(());
+            return;
         }
     }
     panic!(rt; "it never ends");
@@ -69,8 +64,8 @@ fn take_64<R: Abort + Wait>(rt: &R, receiver: &mut Left) {
         let Some(packet) = receiver.next_from(rt, GuestId(0)) else {
             panic!(rt; "packet {number} is missing");
         };
-        assert_eq!(rt; packet.length, 4, "of packet {number}");
-        assert_eq!(rt; packet.page().word_at(0), number, "they come in order");
+        same(rt, packet.length, 4, ("of packet", number));
+        assert!(rt; packet.page().word_at(0) == number, "they come in order");
     }
     assert!(rt;
         receiver.next_from(rt, GuestId(0)).is_none(),
@@ -79,25 +74,26 @@ fn take_64<R: Abort + Wait>(rt: &R, receiver: &mut Left) {
 }
 
 #[test]
-fn a_wire_that_nobody_takes_from_holds_64_packets(rt: HostRuntime) -> Result<(), Fail> {
+fn a_wire_that_nobody_takes_from_holds_64_packets(rt: HostRuntime) {
     let alloc = rt.alloc();
-    let mut pair = two_guests(alloc, &SENDS_65, &NEVER_ARMS)?;
-    let made = run_to_its_end(&rt, alloc, &mut pair, Side::First);
-    let (sender, mut receiver) = pair.finish_after(made)?;
-    assert_eq!(&rt;
-        sender.console.as_slice(),
-        b"A".as_slice(),
+    let mut pair = two_guests(&rt, alloc, &SENDS_65, &NEVER_ARMS);
+    run_to_its_end(&rt, alloc, &mut pair, Side::First);
+    let (sender, mut receiver) = must(&rt, pair.finish());
+    assert!(&rt;
+        sender.console.as_slice() == b"A".as_slice(),
         "what the sender printed"
     );
-    assert_eq!(&rt; sender.sent.len(), 65, "it sent all");
-    assert_eq!(&rt; receiver.record.received.len(), 0, "none was received");
+    assert!(&rt; sender.sent.len() == 65, "it sent all");
+    assert!(&rt; receiver.record.received.len() == 0, "none was received");
     take_64(&rt, &mut receiver);
-    Ok(())
 }
 
 /// Arms the second guest's page, before anything was sent.
-fn arm<R: Abort + Wait>(rt: &R, alloc: Global, pair: &mut Pair) -> Result<(), AllocError> {
-    assert_eq!(rt; pair.load(Side::Second)?, Loaded::Done, "it is free");
+fn arm<R: Abort + Wait>(rt: &R, alloc: Global, pair: &mut Pair) {
+    assert!(rt;
+        must(rt, pair.load(Side::Second)) == Loaded::Done,
+        "it is free"
+    );
     try_turns(
         rt,
         alloc,
@@ -110,52 +106,42 @@ fn arm<R: Abort + Wait>(rt: &R, alloc: Global, pair: &mut Pair) -> Result<(), Al
             Did::Direct,
             Did::Emulated,
         ],
-    )?;
+    );
     assert!(rt; pair.second.guest.is_armed(), "its page waits");
-    assert_eq!(rt;
-        pair.packet_in(rt, alloc, Side::Second)?,
-        Packeted::NoneInHand,
+    assert!(rt;
+        must(rt, pair.packet_in(rt, alloc, Side::Second)) == Packeted::NoneInHand,
         "none was sent"
     );
-    Ok(())
 }
 
 /// Lets a packet come to the second guest, and no other.
-fn deliver_one<R: Abort + Wait>(rt: &R, alloc: Global, pair: &mut Pair) -> Result<(), AllocError> {
-    assert_eq!(rt;
-        pair.packet_in(rt, alloc, Side::Second)?,
-        Packeted::Delivered,
+fn deliver_one<R: Abort + Wait>(rt: &R, alloc: Global, pair: &mut Pair) {
+    assert!(rt;
+        must(rt, pair.packet_in(rt, alloc, Side::Second)) == Packeted::Delivered,
         "the first"
     );
     assert!(rt;
         !pair.second.guest.is_armed(),
         "one packet disarms the page"
     );
-    assert_eq!(rt;
-        pair.packet_in(rt, alloc, Side::Second)?,
-        Packeted::NotArmed,
+    assert!(rt;
+        must(rt, pair.packet_in(rt, alloc, Side::Second)) == Packeted::NotArmed,
         "no page waits"
     );
-    Ok(())
 }
 
 /// Arms the second guest's page, lets the first one send, and delivers one packet.
-fn arm_and_deliver<R: Abort + Wait>(
-    rt: &R,
-    alloc: Global,
-    pair: &mut Pair,
-) -> Result<(), AllocError> {
-    arm(rt, alloc, pair)?;
-    run_to_its_end(rt, alloc, pair, Side::First)?;
+fn arm_and_deliver<R: Abort + Wait>(rt: &R, alloc: Global, pair: &mut Pair) {
+    arm(rt, alloc, pair);
+    run_to_its_end(rt, alloc, pair, Side::First);
     deliver_one(rt, alloc, pair)
 }
 
 #[test]
-fn a_packet_comes_into_the_armed_page(rt: HostRuntime) -> Result<(), Fail> {
+fn a_packet_comes_into_the_armed_page(rt: HostRuntime) {
     let alloc = rt.alloc();
-    let mut pair = two_guests(alloc, &SENDS_65, &ARMS)?;
-    let made = arm_and_deliver(&rt, alloc, &mut pair);
-    let (_, receiver) = pair.finish_after(made)?;
-    assert_eq!(&rt; receiver.record.received.len(), 1, "one was received");
-    Ok(())
+    let mut pair = two_guests(&rt, alloc, &SENDS_65, &ARMS);
+    arm_and_deliver(&rt, alloc, &mut pair);
+    let (_, receiver) = must(&rt, pair.finish());
+    assert!(&rt; receiver.record.received.len() == 1, "one was received");
 }

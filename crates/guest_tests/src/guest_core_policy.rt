@@ -2,13 +2,13 @@
 use crate::booting::{FAR_FROM_HOME, guests_of};
 use crate::guest_core_calls::{Did, try_journal, try_turns};
 use crate::pair::{Pair, Side};
+use crate::telling::must;
 use base_words::{By, End, Event, MoveKind, NodeId, Ppn, ProcId, VcpuId};
 use event_journal::Journal;
 use guest_core::{Asked, Loaded};
-use std::alloc::{AllocError, Global};
+use std::alloc::Global;
 use std::process::Abort;
 use std::sync::Wait;
-use std::test::Fail;
 
 /// LUI 8, C000; three times LW 9, 1000(8); SW 8, 1000(8); LW 9, 1000(8): reads page 1, writes it and reads it again.
 const READS_AND_WRITES: [u32; 6] = [
@@ -24,13 +24,15 @@ const READS_AND_WRITES: [u32; 6] = [
 const PAGE: Ppn = Ppn(1);
 
 /// Makes turns until a replica is due, and asks for it.
-fn read_until_due<R: Abort + Wait>(
-    rt: &R,
-    alloc: Global,
-    pair: &mut Pair,
-) -> Result<(), AllocError> {
-    assert_eq!(rt; pair.load(Side::First)?, Loaded::Done, "it is free");
-    assert_eq!(rt; pair.ask_due(alloc, Side::First)?, None, "at the start");
+fn read_until_due<R: Abort + Wait>(rt: &R, alloc: Global, pair: &mut Pair) {
+    assert!(rt;
+        must(rt, pair.load(Side::First)) == Loaded::Done,
+        "it is free"
+    );
+    assert!(rt;
+        must(rt, pair.ask_due(alloc, Side::First)).is_none(),
+        "at the start"
+    );
     let misses = [
         Did::Refilled,
         Did::Direct,
@@ -38,30 +40,23 @@ fn read_until_due<R: Abort + Wait>(
         Did::Direct,
         Did::Direct,
     ];
-    try_turns(rt, alloc, pair, Side::First, &misses)?;
+    try_turns(rt, alloc, pair, Side::First, &misses);
     assert!(rt;
         pair.turn(rt, alloc, Side::First).is_err(),
         "before it was asked for"
     );
-    assert_eq!(rt;
-        pair.ask_due(alloc, Side::First)?,
-        Some(Asked::Begun),
+    assert!(rt;
+        must(rt, pair.ask_due(alloc, Side::First)) == Some(Asked::Begun),
         "after two misses"
     );
-    assert_eq!(rt;
-        pair.ask_due(alloc, Side::First)?,
-        None,
+    assert!(rt;
+        must(rt, pair.ask_due(alloc, Side::First)) == None,
         "once it was asked for"
     );
-    Ok(())
 }
 
 /// Makes the turns from there on.
-fn read_and_write<R: Abort + Wait>(
-    rt: &R,
-    alloc: Global,
-    pair: &mut Pair,
-) -> Result<(), AllocError> {
+fn read_and_write<R: Abort + Wait>(rt: &R, alloc: Global, pair: &mut Pair) {
     let reads_and_writes = [
         Did::Acked(PAGE),
         Did::Finished(PAGE),
@@ -74,23 +69,17 @@ fn read_and_write<R: Abort + Wait>(
         Did::Direct,
         Did::Direct,
     ];
-    try_turns(rt, alloc, pair, Side::First, &reads_and_writes)?;
-    assert_eq!(rt;
-        pair.ask_due(alloc, Side::First)?,
-        None,
+    try_turns(rt, alloc, pair, Side::First, &reads_and_writes);
+    assert!(rt;
+        must(rt, pair.ask_due(alloc, Side::First)) == None,
         "after a store and two misses"
     );
     pair.unload(Side::First);
-    Ok(())
 }
 
 /// Makes all turns.
-fn make_all_turns<R: Abort + Wait>(
-    rt: &R,
-    alloc: Global,
-    pair: &mut Pair,
-) -> Result<(), AllocError> {
-    read_until_due(rt, alloc, pair)?;
+fn make_all_turns<R: Abort + Wait>(rt: &R, alloc: Global, pair: &mut Pair) {
+    read_until_due(rt, alloc, pair);
     read_and_write(rt, alloc, pair)
 }
 
@@ -137,11 +126,16 @@ fn try_replica<R: Abort>(rt: &R, journal: &Journal) {
 /// After the second miss of page 1 the processor can do nothing before it has asked for the replica; it reads the third time by that one. Its
 /// store lets the replica go first, and neither the store nor the read after it makes another one due, since the page is written.
 #[test]
-fn a_replica_comes_by_misses_and_goes_by_a_store(rt: HostRuntime) -> Result<(), Fail> {
+fn a_replica_comes_by_misses_and_goes_by_a_store(rt: HostRuntime) {
     let alloc = rt.alloc();
-    let mut pair = guests_of(alloc, FAR_FROM_HOME, &READS_AND_WRITES, &READS_AND_WRITES)?;
-    let made = make_all_turns(&rt, alloc, &mut pair);
-    let (record, _) = pair.finish_after(made)?;
+    let mut pair = guests_of(
+        &rt,
+        alloc,
+        FAR_FROM_HOME,
+        &READS_AND_WRITES,
+        &READS_AND_WRITES,
+    );
+    make_all_turns(&rt, alloc, &mut pair);
+    let (record, _) = must(&rt, pair.finish());
     try_replica(&rt, &record.journal);
-    Ok(())
 }

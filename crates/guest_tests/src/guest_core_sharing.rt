@@ -2,12 +2,12 @@
 use crate::booting::{WITH_A_BLOCK, guests_of};
 use crate::guest_core_calls::{Did, kind_of};
 use crate::pair::{Pair, Side};
+use crate::telling::{must, same};
 use base_words::{End, FrameNo};
 use guest_core::Loaded;
-use std::alloc::{AllocError, Global};
+use std::alloc::Global;
 use std::process::Abort;
 use std::sync::Wait;
-use std::test::Fail;
 
 /// Reads block 0 into page 2 by its 7th step, prints its low byte, adds 1, stores it by its 12th step and prints it again.
 const READS_A_BLOCK: [u32; 15] = [
@@ -38,15 +38,15 @@ fn run<R: Abort + Wait>(
     pair: &mut Pair,
     side: Side,
     steps: u32,
-) -> Result<Option<End>, AllocError> {
+) -> Option<End> {
     let mut made = 0u32;
     for _ in 0..TURNS {
         if made == steps {
-            return Ok(None);
+            return None;
         }
-        match kind_of(pair.turn(rt, alloc, side)?) {
+        match kind_of(must(rt, pair.turn(rt, alloc, side))) {
             Did::Direct | Did::Emulated => made = made.wrapping_add(1),
-            Did::Ended(end) => return Ok(Some(end)),
+            Did::Ended(end) => return Some(end),
             _ => {}
         }
     }
@@ -55,47 +55,50 @@ fn run<R: Abort + Wait>(
 
 /// Both guests read the block, and then each goes on to its end. The frame is held by the cache, by who has read it, and by nobody else
 /// once both have stored to their pages.
-fn share_and_break<R: Abort + Wait>(
-    rt: &R,
-    alloc: Global,
-    pair: &mut Pair,
-    frame: FrameNo,
-) -> Result<(), AllocError> {
-    assert_eq!(rt; pair.holds_of(frame), Some(1), "by the cache");
+fn share_and_break<R: Abort + Wait>(rt: &R, alloc: Global, pair: &mut Pair, frame: FrameNo) {
+    assert!(rt; pair.holds_of(frame) == Some(1), "by the cache");
     let rows = [
         (Side::First, 7, 2),
         (Side::Second, 7, 3),
         (Side::First, 5, 2),
     ];
-    assert_eq!(rt; pair.load(Side::First)?, Loaded::Done, "it is free");
-    assert_eq!(rt; pair.load(Side::Second)?, Loaded::Done, "it is free");
+    assert!(rt;
+        must(rt, pair.load(Side::First)) == Loaded::Done,
+        "it is free"
+    );
+    assert!(rt;
+        must(rt, pair.load(Side::Second)) == Loaded::Done,
+        "it is free"
+    );
     for (side, steps, holds) in rows {
-        assert_eq!(rt; run(rt, alloc, pair, side, steps)?, None, "it goes on");
-        assert_eq!(rt; pair.holds_of(frame), Some(holds), "after {steps} steps");
+        assert!(rt; run(rt, alloc, pair, side, steps).is_none(), "it goes on");
+        same(
+            rt,
+            pair.holds_of(frame),
+            Some(holds),
+            ("after steps", steps),
+        );
     }
     for side in [Side::First, Side::Second] {
-        let end = run(rt, alloc, pair, side, TURNS)?;
-        assert_eq!(rt; end, Some(End::Halted), "it halts");
+        let end = run(rt, alloc, pair, side, TURNS);
+        assert!(rt; end == Some(End::Halted), "it halts");
         pair.unload(side);
     }
-    assert_eq!(rt; pair.holds_of(frame), Some(1), "by the cache alone");
-    Ok(())
+    assert!(rt; pair.holds_of(frame) == Some(1), "by the cache alone");
 }
 
 #[test]
-fn a_shared_frame_is_held_by_all_that_share_it(rt: HostRuntime) -> Result<(), Fail> {
+fn a_shared_frame_is_held_by_all_that_share_it(rt: HostRuntime) {
     let alloc = rt.alloc();
-    let mut pair = guests_of(alloc, WITH_A_BLOCK, &READS_A_BLOCK, &READS_A_BLOCK)?;
+    let mut pair = guests_of(&rt, alloc, WITH_A_BLOCK, &READS_A_BLOCK, &READS_A_BLOCK);
     let Some(frame) = pair.kept_frame() else {
         panic!(&rt; "the cell keeps the block");
     };
-    let made = share_and_break(&rt, alloc, &mut pair, frame);
-    let (record, other) = pair.finish_after(made)?;
-    assert_eq!(&rt; record.console.as_slice(), b"ab".as_slice(), "the first");
-    assert_eq!(&rt;
-        other.record.console.as_slice(),
-        b"ab".as_slice(),
+    share_and_break(&rt, alloc, &mut pair, frame);
+    let (record, other) = must(&rt, pair.finish());
+    assert!(&rt; record.console.as_slice() == b"ab".as_slice(), "the first");
+    assert!(&rt;
+        other.record.console.as_slice() == b"ab".as_slice(),
         "the other"
     );
-    Ok(())
 }

@@ -6,6 +6,7 @@ ghost use Rattle.guest_lock.specs.Told.{shown};
 
 use crate::booting::first_guest;
 use crate::guest_core_calls::{Did, kind_of};
+use crate::telling::gave;
 use base_words::{End, GuestId, VcpuId};
 use block_caches::Caches;
 use frame_words::FrameTable;
@@ -18,7 +19,6 @@ use std::alloc::{AllocError, Global};
 use std::marker::Brand;
 use std::process::Abort;
 use std::sync::Wait;
-use std::test::Fail;
 use wire_queue::Wires;
 
 /// A guest at its start, the token of its processor, and what it shares.
@@ -106,7 +106,7 @@ fn try_turns<N: Starts, R: Abort + Wait>(
     alloc: Global,
     started: Started,
     answers: &[Did],
-) -> Result<Guest, AllocError>
+) -> Guest
     requires starts { N.starts ≡ started.guest.start ∷ [] }
     requires board { N.board ≡ started.guest.board }
     requires shared { N.shared ≡ record { table = started.table; wires = started.wires; indexes = started.caches.indexes.items } }
@@ -129,19 +129,19 @@ fn try_turns<N: Starts, R: Abort + Wait>(
         wires: &wires,
         indexes: &caches.indexes,
     };
-    assert_eq!(rt; desk.load(rt)?, Loaded::Done, "it is free");
+    assert!(rt; gave(rt, desk.load(rt)) == Loaded::Done, "it is free");
     for answer in answers {
-        let turn = desk.turn(rt, alloc, &resources)?;
-        assert_eq!(rt; kind_of(turn), *answer, "in its place");
+        let turn = gave(rt, desk.turn(rt, alloc, &resources));
+        assert!(rt; kind_of(turn) == *answer, "in its place");
     }
     desk.unload(rt);
-    Ok(desk.cell.take_out())
+    desk.cell.take_out()
 }
 
 #[test]
-fn turns_are_made_under_a_lock(rt: HostRuntime) -> Result<(), Fail> {
+fn turns_are_made_under_a_lock(rt: HostRuntime) {
     let alloc = rt.alloc();
-    let started = first_guest(alloc, &PRINTS_A)?;
+    let started = first_guest(&rt, alloc, &PRINTS_A);
     let guest = try_turns::<Brand, HostRuntime>(
         &rt,
         alloc,
@@ -155,11 +155,9 @@ fn turns_are_made_under_a_lock(rt: HostRuntime) -> Result<(), Fail> {
             Did::Emulated,
             Did::Ended(End::Halted),
         ],
-    )?;
-    assert_eq!(&rt;
-        guest.end(),
-        Some(End::Halted),
+    );
+    assert!(&rt;
+        guest.end() == Some(End::Halted),
         "its one virtual processor halted"
     );
-    Ok(())
 }

@@ -19,3 +19,5 @@ mod guest_lock_turns;
 mod lane;
 #[cfg(test)]
 mod pair;
+#[cfg(test)]
+mod telling;

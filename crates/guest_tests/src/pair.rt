@@ -215,14 +215,4 @@ impl Pair {
             },
         ))
     }
-
-    /// The same once turns were made; their error where one wasn't.
-    pub(crate) fn finish_after(
-        self,
-        made: Result<(), AllocError>,
-    ) -> Result<(GuestRecord, Left), AllocError> {
-        let left = self.finish()?;
-        made?;
-        Ok(left)
-    }
 }

@@ -1,8 +1,9 @@
 //! Lists made by hand, with their lengths and runs counted by hand.
+use crate::telling::{gave, must};
 use base_words::{By, End, MoveKind, NodeId, Ppn};
 use event_journal::{Event, Journal, ProcId, Run, VcpuId};
-use std::alloc::{AllocError, Global};
-use std::test::Fail;
+use std::alloc::Global;
+use std::process::Abort;
 
 const DIRECT: Event = Event::Direct(ProcId(0), VcpuId(0));
 
@@ -48,15 +49,11 @@ const BY_OTHER_STEP: Event = Event::Begin {
 };
 
 /// A journal with these entries, each so often in a row. A Direct entry comes by its own call where that is asked for.
-fn journal_of(
-    alloc: Global,
-    rows: &[(Event, u64)],
-    by_own_call: bool,
-) -> Result<Journal, AllocError> {
+fn journal_of(rt: &impl Abort, alloc: Global, rows: &[(Event, u64)], by_own_call: bool) -> Journal {
     let mut journal = Journal::new(alloc);
     for (event, count) in rows {
         for _ in 0..*count {
-            journal.reserve(1)?;
+            gave(rt, journal.reserve(1));
             match event {
                 Event::Direct(processor, vcpu) if by_own_call => {
                     journal.push_direct(*processor, *vcpu);
@@ -65,7 +62,7 @@ fn journal_of(
             }
         }
     }
-    Ok(journal)
+    journal
 }
 
 /// Entries, how many there are, and their runs.
@@ -124,49 +121,47 @@ static ROWS: [Row; 8] = [
 ];
 
 #[test]
-fn entries_are_kept_as_runs(rt: HostRuntime) -> Result<(), Fail> {
+fn entries_are_kept_as_runs(rt: HostRuntime) {
     for by_own_call in [false, true] {
         for (entries, len, runs) in &ROWS {
-            let journal = journal_of(rt.alloc(), *entries, by_own_call)?;
-            assert_eq!(rt; journal.len(), *len);
-            assert_eq!(rt; journal.runs(), runs.len() as u64);
+            let journal = journal_of(&rt, rt.alloc(), *entries, by_own_call);
+            assert!(rt; journal.len() == *len);
+            assert!(rt; journal.runs() == runs.len() as u64);
             let mut kept = journal.as_runs();
             for (event, count) in *runs {
                 let run = Run {
                     event: *event,
                     count: *count,
                 };
-                assert_eq!(rt; kept.next(), Some(run));
+                assert!(rt; kept.next() == Some(run));
             }
-            assert_eq!(rt; kept.next(), None);
+            assert!(rt; kept.next().is_none());
         }
     }
-    Ok(())
 }
 
 #[test]
-fn room_is_made_and_used(rt: HostRuntime) -> Result<(), Fail> {
+fn room_is_made_and_used(rt: HostRuntime) {
     let mut journal = Journal::new(rt.alloc());
-    assert_eq!(rt; journal.room(), 0);
+    assert!(rt; journal.room() == 0);
     assert!(rt; journal.is_empty());
     assert!(rt; journal.has_room(0));
     assert!(rt; !journal.has_room(1));
-    journal.reserve(3)?;
+    must(&rt, journal.reserve(3));
     assert!(rt; journal.has_room(3));
     journal.push(LOAD);
     journal.push_direct(ProcId(0), VcpuId(0));
     journal.push(UNLOAD);
-    assert_eq!(rt; journal.len(), 3);
+    assert!(rt; journal.len() == 3);
     assert!(rt; !journal.is_empty());
     let room = journal.room();
     assert!(rt; journal.reserve(usize::MAX).is_err());
-    assert_eq!(rt; journal.room(), room);
-    assert_eq!(rt; journal.runs(), 3);
-    Ok(())
+    assert!(rt; journal.room() == room);
+    assert!(rt; journal.runs() == 3);
 }
 
 #[test]
-fn entries_are_counted(rt: HostRuntime) -> Result<(), Fail> {
+fn entries_are_counted(rt: HostRuntime) {
     let entries = [
         (LOAD, 1),
         (REFILL, 2),
@@ -177,11 +172,10 @@ fn entries_are_counted(rt: HostRuntime) -> Result<(), Fail> {
         (REFILL, 1),
         (DIRECT, 4),
     ];
-    let journal = journal_of(rt.alloc(), &entries, true)?;
+    let journal = journal_of(&rt, rt.alloc(), &entries, true);
     for (processor, vcpu, steps) in [(0, 0, 11), (0, 1, 3), (1, 0, 1), (1, 1, 0)] {
-        assert_eq!(rt; journal.steps_of(ProcId(processor), VcpuId(vcpu)), steps);
+        assert!(rt; journal.steps_of(ProcId(processor), VcpuId(vcpu)) == steps);
     }
-    assert_eq!(rt; journal.count_of(|event| event == REFILL), 3);
-    assert_eq!(rt; journal.count_of(|_| true), 19);
-    Ok(())
+    assert!(rt; journal.count_of(|event| event == REFILL) == 3);
+    assert!(rt; journal.count_of(|_| true) == 19);
 }

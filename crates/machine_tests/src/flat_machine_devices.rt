@@ -1,12 +1,11 @@
 //! The device page, of small guests whose consoles and sent packets are derived by hand.
 use crate::flat_machine_guests::{Row, steps_40, try_row};
-use std::test::Fail;
 
 /// MFC0 3, Cause; SRL 3, 3, 2; SW 3, 0(1); SW 0, 4(1): the code of the exception, and a halt.
 const TELLS_CODE: [u32; 4] = [0x4003_6800, 0x0003_1882, 0xAC23_0000, 0xAC20_0004];
 
 #[test]
-fn registers(rt: HostRuntime) -> Result<(), Fail> {
+fn registers(rt: HostRuntime) {
     let alloc = rt.alloc();
     let rows: [(&str, u32, &[u8]); 24] = [
         ("console", 0x00, &[0x5A, 0]),
@@ -51,13 +50,12 @@ fn registers(rt: HostRuntime) -> Result<(), Fail> {
                 console,
                 ..steps_40()
             },
-        )?;
+        );
     }
-    Ok(())
 }
 
 #[test]
-fn all_but_words_are_bus_errors(rt: HostRuntime) -> Result<(), Fail> {
+fn all_but_words_are_bus_errors(rt: HostRuntime) {
     let alloc = rt.alloc();
     for (about, word) in [
         ("LB", 0x8023_0000),
@@ -83,13 +81,12 @@ fn all_but_words_are_bus_errors(rt: HostRuntime) -> Result<(), Fail> {
                 console: &[7],
                 ..steps_40()
             },
-        )?;
+        );
     }
-    Ok(())
 }
 
 #[test]
-fn disk_commands(rt: HostRuntime) -> Result<(), Fail> {
+fn disk_commands(rt: HostRuntime) {
     let alloc = rt.alloc();
     let disk = b"disk".as_slice();
     let none = b"".as_slice();
@@ -139,13 +136,12 @@ fn disk_commands(rt: HostRuntime) -> Result<(), Fail> {
                 console: &console,
                 ..steps_40()
             },
-        )?;
+        );
     }
-    Ok(())
 }
 
 #[test]
-fn a_page_goes_through_the_disk(rt: HostRuntime) -> Result<(), Fail> {
+fn a_page_goes_through_the_disk(rt: HostRuntime) {
     let alloc = rt.alloc();
     try_row(
         &rt,
@@ -167,12 +163,11 @@ fn a_page_goes_through_the_disk(rt: HostRuntime) -> Result<(), Fail> {
             console: &[0x3C],
             ..steps_40()
         },
-    )?;
-    Ok(())
+    );
 }
 
 #[test]
-fn sends(rt: HostRuntime) -> Result<(), Fail> {
+fn sends(rt: HostRuntime) {
     let alloc = rt.alloc();
     let rows: [(&str, u32, u32, &[(u32, usize, &[u8])]); 6] = [
         ("4 bytes", 0, 4, &[(2, 4, &[0x3C, 0x01, 0xCF, 0xFF])]),
@@ -205,13 +200,12 @@ fn sends(rt: HostRuntime) -> Result<(), Fail> {
                 sent,
                 ..steps_40()
             },
-        )?;
+        );
     }
-    Ok(())
 }
 
 #[test]
-fn input_comes_at_its_step(rt: HostRuntime) -> Result<(), Fail> {
+fn input_comes_at_its_step(rt: HostRuntime) {
     let alloc = rt.alloc();
     let rows: [(&str, &[(u64, &str)], &[u8]); 5] = [
         ("input at the step that reads it", &[(4, "x")], b"x\xFF"),
@@ -245,13 +239,12 @@ fn input_comes_at_its_step(rt: HostRuntime) -> Result<(), Fail> {
                 console,
                 ..steps_40()
             },
-        )?;
+        );
     }
-    Ok(())
 }
 
 #[test]
-fn bytes_that_wait_are_counted(rt: HostRuntime) -> Result<(), Fail> {
+fn bytes_that_wait_are_counted(rt: HostRuntime) {
     let alloc = rt.alloc();
     try_row(
         &rt,
@@ -270,6 +263,5 @@ fn bytes_that_wait_are_counted(rt: HostRuntime) -> Result<(), Fail> {
             console: &[3, 2],
             ..steps_40()
         },
-    )?;
-    Ok(())
+    );
 }

@@ -1,7 +1,6 @@
 //! Exceptions, interrupts and links, of small guests whose consoles are derived by hand.
 use crate::flat_machine_guests::{Happens, Row, boot, make_steps, steps_40, try_row};
 use base_words::VcpuId;
-use std::test::Fail;
 
 /// MFC0 2, EPC; SW 2, 0(1); MFC0 3, Cause; SRL 3, 3, 24; SW 3, 0(1); SYSCALL.
 const TELLS_EPC: [u32; 6] = [
@@ -14,7 +13,7 @@ const TELLS_EPC: [u32; 6] = [
 ];
 
 #[test]
-fn exceptions(rt: HostRuntime) -> Result<(), Fail> {
+fn exceptions(rt: HostRuntime) {
     let alloc = rt.alloc();
     for (about, program, steps, console) in [
         (
@@ -47,13 +46,12 @@ fn exceptions(rt: HostRuntime) -> Result<(), Fail> {
                 console,
                 ..steps_40()
             },
-        )?;
+        );
     }
-    Ok(())
 }
 
 #[test]
-fn a_halt_is_of_one_virtual_processor(rt: HostRuntime) -> Result<(), Fail> {
+fn a_halt_is_of_one_virtual_processor(rt: HostRuntime) {
     let row = Row {
         vcpus: 2,
         program: &[
@@ -62,21 +60,20 @@ fn a_halt_is_of_one_virtual_processor(rt: HostRuntime) -> Result<(), Fail> {
         ],
         ..steps_40()
     };
-    let mut flat = boot(rt.alloc(), &row)?;
-    make_steps(&mut flat, 0, 4)?;
+    let mut flat = boot(&rt, rt.alloc(), &row);
+    make_steps(&rt, &mut flat, 0, 4);
     assert!(rt; !flat.halted(VcpuId(0)), "before the store");
-    make_steps(&mut flat, 0, 3)?;
+    make_steps(&rt, &mut flat, 0, 3);
     assert!(rt; flat.halted(VcpuId(0)));
     assert!(rt; !flat.halted(VcpuId(1)));
     assert!(rt; flat.console().is_empty() && flat.armed().is_none());
-    Ok(())
 }
 
 /// A branch to itself, and its slot.
 const WAITS: [u32; 2] = [0x1000_FFFF, 0x0000_0000];
 
 #[test]
-fn input_interrupts(rt: HostRuntime) -> Result<(), Fail> {
+fn input_interrupts(rt: HostRuntime) {
     let alloc = rt.alloc();
     try_row(
         &rt,
@@ -98,7 +95,7 @@ fn input_interrupts(rt: HostRuntime) -> Result<(), Fail> {
             console: b"x",
             ..steps_40()
         },
-    )?;
+    );
     try_row(
         &rt,
         alloc,
@@ -115,12 +112,11 @@ fn input_interrupts(rt: HostRuntime) -> Result<(), Fail> {
             console: b"",
             ..steps_40()
         },
-    )?;
-    Ok(())
+    );
 }
 
 #[test]
-fn calls_interrupt(rt: HostRuntime) -> Result<(), Fail> {
+fn calls_interrupt(rt: HostRuntime) {
     let alloc = rt.alloc();
     try_row(
         &rt,
@@ -154,12 +150,11 @@ fn calls_interrupt(rt: HostRuntime) -> Result<(), Fail> {
             console: b"C",
             ..steps_40()
         },
-    )?;
-    Ok(())
+    );
 }
 
 #[test]
-fn packets_interrupt(rt: HostRuntime) -> Result<(), Fail> {
+fn packets_interrupt(rt: HostRuntime) {
     let alloc = rt.alloc();
     try_row(
         &rt,
@@ -194,8 +189,7 @@ fn packets_interrupt(rt: HostRuntime) -> Result<(), Fail> {
             console: &[2, 3, 0xFF, b'Q'],
             ..steps_40()
         },
-    )?;
-    Ok(())
+    );
 }
 
 /// Links the first line of page 1, does something, stores conditionally, and tells whether the store was made.
@@ -214,7 +208,7 @@ fn links(does: [u32; 4]) -> [u32; 9] {
 }
 
 #[test]
-fn disk_reads_and_exceptions_clear_links(rt: HostRuntime) -> Result<(), Fail> {
+fn disk_reads_and_exceptions_clear_links(rt: HostRuntime) {
     let alloc = rt.alloc();
     for (about, does, console) in [
         ("nothing", [0, 0, 0, 0], b"1"),
@@ -243,13 +237,12 @@ fn disk_reads_and_exceptions_clear_links(rt: HostRuntime) -> Result<(), Fail> {
                 console,
                 ..steps_40()
             },
-        )?;
+        );
     }
-    Ok(())
 }
 
 #[test]
-fn stores_of_others_clear_links(rt: HostRuntime) -> Result<(), Fail> {
+fn stores_of_others_clear_links(rt: HostRuntime) {
     let alloc = rt.alloc();
     for (about, offset, console) in [
         ("a store of the other one to the line", 0x1C, b"0"),
@@ -281,13 +274,12 @@ fn stores_of_others_clear_links(rt: HostRuntime) -> Result<(), Fail> {
                 console,
                 ..steps_40()
             },
-        )?;
+        );
     }
-    Ok(())
 }
 
 #[test]
-fn packets_clear_links(rt: HostRuntime) -> Result<(), Fail> {
+fn packets_clear_links(rt: HostRuntime) {
     let alloc = rt.alloc();
     for (about, page, console) in [
         ("a packet into the page", 1, b"0"),
@@ -315,7 +307,6 @@ fn packets_clear_links(rt: HostRuntime) -> Result<(), Fail> {
                 console,
                 ..steps_40()
             },
-        )?;
+        );
     }
-    Ok(())
 }

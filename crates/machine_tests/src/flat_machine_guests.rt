@@ -1,13 +1,14 @@
 //! Small guests: how they are written down, and what they print and send. Register 1 is the device page, register 6 the guest's
 //! page 1.
-ghost use Rattle.std.specs.Prelude.{◌≡◌, ◌<◌, ◌≤◌, IfOk, length};
+ghost use Rattle.std.specs.Prelude.{◌≡◌, ◌<◌, ◌≤◌, length};
 
+use crate::telling::{gave, holds, must, same};
 use base_words::{
     Blocks, Bytes, GuestId, InputEntry, InputList, OwnEvent, Page, SentPacket, VcpuId,
 };
 use elf_image::{Image, load_raw};
 use flat_machine::Flat;
-use std::alloc::{AllocError, Global};
+use std::alloc::Global;
 use std::process::Abort;
 
 /// LUI 1, CFFF; ORI 1, 1, F000; LUI 6, C000; ORI 6, 6, 1000.
@@ -64,100 +65,97 @@ pub fn steps_40<'a>() -> Row<'a>
 }
 
 /// A file of words, each part from a place on, with zeros between them.
-fn file_of(alloc: Global, parts: &[(usize, &[u32])]) -> Result<Vec<u8>, AllocError> {
+fn file_of(rt: &impl Abort, alloc: Global, parts: &[(usize, &[u32])]) -> Vec<u8> {
     let mut file = Vec::new(alloc);
     for (at, words) in parts {
-        file.resize(*at, 0u8)?;
+        must(rt, file.resize(*at, 0u8));
         for word in *words {
-            file.extend_from_slice(&word.to_be_bytes())?;
+            must(rt, file.extend_from_slice(&word.to_be_bytes()));
         }
     }
-    Ok(file)
+    file
 }
 
 /// The image of a guest.
-fn image_of(alloc: Global, row: &Row) -> Result<Image, AllocError> {
+fn image_of(rt: &impl Abort, alloc: Global, row: &Row) -> Image {
     let parts = [
         (0, START.as_slice()),
         (PROGRAM, row.program),
         (VECTOR, row.vector),
     ];
-    let file = file_of(alloc, &parts)?;
-    match load_raw(alloc, &file, PAGES) {
-        Ok(image) => Ok(image),
-        Err(_) => Err(AllocError),
-    }
+    let file = file_of(rt, alloc, &parts);
+    must(rt, load_raw(alloc, &file, PAGES))
 }
 
 /// The input of a guest.
-fn input_of(alloc: Global, row: &Row) -> Result<InputList, AllocError> {
+fn input_of(rt: &impl Abort, alloc: Global, row: &Row) -> InputList {
     let mut input = InputList::new(alloc);
     for (at, text) in row.input {
-        input.push(InputEntry {
-            at: *at,
-            text: Bytes::from_vec(text.as_bytes().to_vec(alloc)?),
-        })?;
+        must(
+            rt,
+            input.push(InputEntry {
+                at: *at,
+                text: Bytes::from_vec(gave(rt, text.as_bytes().to_vec(alloc))),
+            }),
+        );
     }
-    Ok(input)
+    input
 }
 
 /// A disk of one block, which begins with these bytes.
-fn disk_of(alloc: Global, bytes: &[u8]) -> Result<Blocks, AllocError>
+fn disk_of(rt: &impl Abort, alloc: Global, bytes: &[u8]) -> Blocks
     requires { length bytes.now ≤ 4096 }
 {
-    let mut page = Page::zeroed(alloc)?;
+    let mut page = gave(rt, Page::zeroed(alloc));
     page.fill_from(0, bytes);
     let mut disk = Blocks::new(alloc);
-    disk.push(page)?;
-    Ok(disk)
+    must(rt, disk.push(page));
+    disk
 }
 
 /// A guest at its start.
-pub fn boot(alloc: Global, row: &Row) -> Result<Flat, AllocError>
+pub fn boot(rt: &impl Abort, alloc: Global, row: &Row) -> Flat
     requires some { 0 < row.now.vcpus }
     requires disk { length row.now.disk.now ≤ 4096 }
-    ensures { IfOk result (λ flat. length flat.vcpus ≡ row.now.vcpus) }
+    ensures { length result.vcpus ≡ row.now.vcpus }
 {
-    let image = image_of(alloc, row)?;
-    let input = input_of(alloc, row)?;
+    let image = image_of(rt, alloc, row);
+    let input = input_of(rt, alloc, row);
     if row.disk.is_empty() {
-        Flat::boot(alloc, &image, row.vcpus, None, &input)
+        gave(rt, Flat::boot(alloc, &image, row.vcpus, None, &input))
     } else {
-        let disk = disk_of(alloc, row.disk)?;
-        Flat::boot(alloc, &image, row.vcpus, Some(&disk), &input)
+        let disk = disk_of(rt, alloc, row.disk);
+        gave(
+            rt,
+            Flat::boot(alloc, &image, row.vcpus, Some(&disk), &input),
+        )
     }
 }
 
 /// A virtual processor makes so many steps.
-pub fn make_steps(flat: &mut Flat, vcpu: u8, count: u32) -> Result<(), AllocError>
+pub fn make_steps(rt: &impl Abort, flat: &mut Flat, vcpu: u8, count: u32)
     requires { vcpu < length flat.old.vcpus }
     ensures { length flat.new.vcpus ≡ length flat.old.vcpus }
 {
-    flat.run(VcpuId(vcpu), u64::from(count))
+    gave(rt, flat.run(VcpuId(vcpu), u64::from(count)))
 }
 
 /// Lets something happen to a guest of so many virtual processors.
-fn let_happen(
-    rt: &impl Abort,
-    alloc: Global,
-    flat: &mut Flat,
-    vcpus: u8,
-    happens: Happens,
-) -> Result<(), AllocError>
+fn let_happen(rt: &impl Abort, alloc: Global, flat: &mut Flat, vcpus: u8, happens: Happens)
     requires { length flat.old.vcpus ≡ vcpus }
     ensures { length flat.new.vcpus ≡ vcpus }
 {
     match happens {
         Happens::Steps(vcpu, count) => {
             assert!(rt; vcpu < vcpus);
-            make_steps(flat, vcpu, count)
+            make_steps(rt, flat, vcpu, count)
         }
         Happens::Packet(bytes) => {
             assert!(rt; !bytes.is_empty() && bytes.len() <= 4096);
             assert!(rt; flat.armed().is_some());
-            let bytes = Bytes::from_vec(bytes.to_vec(alloc)?);
+            let bytes = Bytes::from_vec(gave(rt, bytes.to_vec(alloc)));
             let from = GuestId(3);
-            flat.own_event(&OwnEvent::Packet { from, bytes })
+            gave(rt, flat.own_event(&OwnEvent::Packet { from, bytes }))
         }
     }
 }
@@ -165,13 +163,14 @@ fn let_happen(
 /// Compares the packets that were sent with those of a row.
 fn compare_sent(rt: &impl Abort, sent: &[SentPacket], row: &Row) {
     let about = row.about;
-    assert_eq!(rt; sent.len(), row.sent.len(), "sent of {about}");
+    same(rt, sent.len(), row.sent.len(), ("sent of", about));
     for (packet, (to, length, first)) in sent.iter().zip(row.sent) {
-        assert_eq!(rt; packet.to, *to, "receiver of {about}");
-        assert_eq!(rt; packet.bytes.len(), *length, "length of {about}");
-        assert!(rt;
+        same(rt, packet.to, *to, ("receiver of", about));
+        same(rt, packet.bytes.len(), *length, ("length of", about));
+        holds(
+            rt,
             packet.bytes.as_slice().starts_with(*first),
-            "bytes of {about}"
+            ("bytes of", about),
         );
     }
 }
@@ -179,18 +178,17 @@ fn compare_sent(rt: &impl Abort, sent: &[SentPacket], row: &Row) {
 /// Compares what was printed with that of a row.
 fn compare_console(rt: &impl Abort, console: &[u8], row: &Row) {
     let about = row.about;
-    assert_eq!(rt; console, row.console, "console of {about}");
+    same(rt, console, row.console, ("console of", about));
 }
 
 /// Lets happen what a row says, and compares what was printed and sent.
-pub fn try_row(rt: &impl Abort, alloc: Global, row: &Row) -> Result<(), AllocError> {
+pub fn try_row(rt: &impl Abort, alloc: Global, row: &Row) {
     assert!(rt; row.vcpus > 0 && row.disk.len() <= 4096);
-    let mut flat = boot(alloc, row)?;
+    let mut flat = boot(rt, alloc, row);
     for happens in row.happens {
-        let_happen(rt, alloc, &mut flat, row.vcpus, *happens)?;
+        let_happen(rt, alloc, &mut flat, row.vcpus, *happens);
     }
     compare_console(rt, flat.console(), row);
     compare_sent(rt, flat.sent(), row);
     compare_console(rt, flat.into_console().as_slice(), row);
-    Ok(())
 }

@@ -22,6 +22,8 @@ mod page_policy_choices;
 #[cfg(test)]
 mod pmap_table_pages;
 #[cfg(test)]
+mod telling;
+#[cfg(test)]
 mod trap_emulate_faults;
 #[cfg(test)]
 mod trap_emulate_rig;

@@ -1,11 +1,12 @@
 //! Choices worked out by hand, for three pages and three nodes.
-ghost use Rattle.std.specs.Prelude.{◌<◌, IfOk};
+ghost use Rattle.std.specs.Prelude.{◌<◌};
 ghost use Rattle.page_policy.specs.Pages.{AreCounters};
 
+use crate::telling::{gave, must};
 use page_policy::Choice::{Migrate, Replicate, Stay};
 use page_policy::{Choice, Counters, NodeId, Policy, Ppn};
-use std::alloc::{AllocError, Global};
-use std::test::Fail;
+use std::alloc::Global;
+use std::process::Abort;
 
 const STAYS: [Choice; 3] = [Stay, Stay, Stay];
 
@@ -24,16 +25,16 @@ fn miss(counters: &mut Counters, node: NodeId, times: u8)
 }
 
 /// These misses of page 1, which is then written or not.
-fn with_misses(alloc: Global, misses: [u8; 3], written: bool) -> Result<Counters, AllocError>
-    ensures { IfOk result (AreCounters 3 3) }
+fn with_misses(rt: &impl Abort, alloc: Global, misses: [u8; 3], written: bool) -> Counters
+    ensures { AreCounters 3 3 result }
 {
-    let mut counters = Counters::new(alloc, 3, 3)?;
+    let mut counters = gave(rt, Counters::new(alloc, 3, 3));
     let [first, second, third] = misses;
     miss(&mut counters, NodeId(0), first);
     miss(&mut counters, NodeId(1), second);
     miss(&mut counters, NodeId(2), third);
     counters.note(Ppn(1), NodeId(0), false, written);
-    Ok(counters)
+    counters
 }
 
 /// What is chosen for a page after a miss of each node.
@@ -49,7 +50,7 @@ fn choices(counters: &Counters, page: Ppn, policy: &Policy) -> [Choice; 3]
 }
 
 #[test]
-fn choices_by_misses_and_mark(rt: HostRuntime) -> Result<(), Fail> {
+fn choices_by_misses_and_mark(rt: HostRuntime) {
     let rows: [Row; 13] = [
         ([0, 0, 0], false, 1, 1, STAYS), // no miss
         ([3, 0, 0], false, 3, 0, [Migrate(NodeId(0)), Stay, Stay]), // as many as the threshold
@@ -76,55 +77,51 @@ fn choices_by_misses_and_mark(rt: HostRuntime) -> Result<(), Fail> {
         ([0, 1, 0], false, 1, 1, [Stay, Migrate(NodeId(1)), Stay]), // migration comes first
     ];
     for (misses, written, migrate, replicate, wanted) in rows {
-        let counters = with_misses(rt.alloc(), misses, written)?;
+        let counters = with_misses(&rt, rt.alloc(), misses, written);
         let policy = Policy { migrate, replicate };
-        assert_eq!(rt; choices(&counters, Ppn(1), &policy), wanted);
-        assert_eq!(rt; choices(&counters, Ppn(0), &policy), STAYS);
-        assert_eq!(rt; choices(&counters, Ppn(2), &policy), STAYS);
+        assert!(rt; choices(&counters, Ppn(1), &policy) == wanted);
+        assert!(rt; choices(&counters, Ppn(0), &policy) == STAYS);
+        assert!(rt; choices(&counters, Ppn(2), &policy) == STAYS);
     }
-    Ok(())
 }
 
 #[test]
-fn a_page_starts_anew(rt: HostRuntime) -> Result<(), Fail> {
+fn a_page_starts_anew(rt: HostRuntime) {
     let policy = Policy {
         migrate: 0,
         replicate: 1,
     };
-    let mut counters = with_misses(rt.alloc(), [3, 2, 4], true)?;
+    let mut counters = with_misses(&rt, rt.alloc(), [3, 2, 4], true);
     counters.note(Ppn(2), NodeId(2), true, false);
     counters.restart(Ppn(1));
-    assert_eq!(rt; choices(&counters, Ppn(1), &policy), STAYS);
+    assert!(rt; choices(&counters, Ppn(1), &policy) == STAYS);
     let kept = [Stay, Stay, Replicate(NodeId(2))];
-    assert_eq!(rt; choices(&counters, Ppn(2), &policy), kept);
+    assert!(rt; choices(&counters, Ppn(2), &policy) == kept);
     counters.note(Ppn(1), NodeId(0), true, false); // the mark is off
     let first = [Replicate(NodeId(0)), Stay, Stay];
-    assert_eq!(rt; choices(&counters, Ppn(1), &policy), first);
-    Ok(())
+    assert!(rt; choices(&counters, Ppn(1), &policy) == first);
 }
 
 #[test]
-fn a_miss_may_be_a_store(rt: HostRuntime) -> Result<(), Fail> {
-    let mut counters = with_misses(rt.alloc(), [0, 0, 0], false)?;
+fn a_miss_may_be_a_store(rt: HostRuntime) {
+    let mut counters = with_misses(&rt, rt.alloc(), [0, 0, 0], false);
     counters.note(Ppn(1), NodeId(1), true, true);
     let copies = Policy {
         migrate: 0,
         replicate: 1,
     };
-    assert_eq!(rt; choices(&counters, Ppn(1), &copies), STAYS);
+    assert!(rt; choices(&counters, Ppn(1), &copies) == STAYS);
     let moves = Policy {
         migrate: 1,
         replicate: 0,
     };
     let wanted = [Stay, Migrate(NodeId(1)), Stay];
-    assert_eq!(rt; choices(&counters, Ppn(1), &moves), wanted);
-    Ok(())
+    assert!(rt; choices(&counters, Ppn(1), &moves) == wanted);
 }
 
 #[test]
-fn no_pages_and_no_nodes(rt: HostRuntime) -> Result<(), Fail> {
-    Counters::new(rt.alloc(), 0, 0)?;
-    Counters::new(rt.alloc(), 0, 255)?;
-    Counters::new(rt.alloc(), 5, 0)?;
-    Ok(())
+fn no_pages_and_no_nodes(rt: HostRuntime) {
+    must(&rt, Counters::new(rt.alloc(), 0, 0));
+    must(&rt, Counters::new(rt.alloc(), 0, 255));
+    must(&rt, Counters::new(rt.alloc(), 5, 0));
 }

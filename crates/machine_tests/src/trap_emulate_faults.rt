@@ -1,4 +1,5 @@
 //! Steps that raise exceptions, worked out by hand.
+use crate::telling::same;
 use crate::trap_emulate_rig::{
     BAD_ADDRESS, BRANCH, CAUSE, CODE, CONTEXT, COUNT, DEVICES, END, ENTRY_HI, EPC, LH, LW, LWR,
     REFILL, SB, SC, SLOT, STATUS, SW, Start, USER, VECTOR, at, in_slot, started, step, with_word,
@@ -6,9 +7,8 @@ use crate::trap_emulate_rig::{
 use base_words::Entry;
 use base_words::Use::{Fetch, Load, Store};
 use private_machine::Vcpu;
-use std::alloc::{AllocError, Global};
+use std::alloc::Global;
 use std::process::Abort;
-use std::test::Fail;
 use trap_emulate::Exception::{
     AddressError, BusError, CoprocessorUnusable, Interrupt, Overflow, ReservedInstruction,
     SystemCall, TlbModified, TlbRefill,
@@ -25,19 +25,19 @@ type Raises = (Start, Option<u32>, TrapCause, Exception, [u32; 4]);
 
 /// A register of coprocessor 0 reads a word.
 fn reads(rt: &impl Abort, after: &Vcpu, number: u8, word: u32) {
-    assert_eq!(rt; after.cp0.read(number), word, "register {number}");
+    same(rt, after.cp0.read(number), word, ("register", number));
 }
 
-fn raises(rt: &impl Abort, alloc: Global, row: &Raises) -> Result<(), AllocError> {
+fn raises(rt: &impl Abort, alloc: Global, row: &Raises) {
     let (start, word, cause, exception, [pc, epc, cause_word, bad_address]) = *row;
     let vcpu = started(&start);
-    let outcome = step(alloc, &vcpu, None, word)?;
+    let outcome = step(rt, alloc, &vcpu, None, word);
     assert!(rt; outcome.is_some());
     if let Some(outcome) = outcome {
         let after = &outcome.vcpu;
-        assert_eq!(rt; outcome.cause, cause);
-        assert_eq!(rt; outcome.told, Emulated::Forward(exception));
-        assert!(rt; after.registers.pc == pc && after.registers.slot == None);
+        assert!(rt; outcome.cause == cause);
+        assert!(rt; outcome.told == Emulated::Forward(exception));
+        assert!(rt; after.registers.pc == pc && after.registers.slot.is_none());
         assert!(rt; after.registers.general == vcpu.registers.general);
         reads(rt, after, EPC, epc);
         reads(rt, after, CAUSE, cause_word);
@@ -45,11 +45,10 @@ fn raises(rt: &impl Abort, alloc: Global, row: &Raises) -> Result<(), AllocError
         reads(rt, after, STATUS, vcpu.cp0.read(STATUS) | 2);
         assert!(rt; after.cp0.read(COUNT) == 1 && after.steps == 1);
     }
-    Ok(())
 }
 
 #[test]
-fn fetches_and_interrupts(rt: HostRuntime) -> Result<(), Fail> {
+fn fetches_and_interrupts(rt: HostRuntime) {
     // a software interrupt in a delay slot
     let interrupted = Start {
         cp0: [(STATUS, 0x101), (CAUSE, 0x100)],
@@ -103,13 +102,12 @@ fn fetches_and_interrupts(rt: HostRuntime) -> Result<(), Fail> {
         ),
     ];
     for row in &rows {
-        raises(&rt, rt.alloc(), row)?;
+        raises(&rt, rt.alloc(), row);
     }
-    Ok(())
 }
 
 #[test]
-fn instructions_that_raise(rt: HostRuntime) -> Result<(), Fail> {
+fn instructions_that_raise(rt: HostRuntime) {
     let user = with_word(USER, STATUS, 0x10);
     let slot = in_slot(SLOT, 0xC000_0214);
     let sum = Start {
@@ -164,13 +162,12 @@ fn instructions_that_raise(rt: HostRuntime) -> Result<(), Fail> {
             &rt,
             rt.alloc(),
             &(start, Some(word), cause, exception, told),
-        )?;
+        );
     }
-    Ok(())
 }
 
 #[test]
-fn data_accesses_that_raise(rt: HostRuntime) -> Result<(), Fail> {
+fn data_accesses_that_raise(rt: HostRuntime) {
     let odd = CODE + 2;
     // by an address in register 8; the device page has no register at 4C, and none for less than a word or for SC
     let rows: [(u32, u32, Exception, [u32; 3]); 9] = [
@@ -196,13 +193,12 @@ fn data_accesses_that_raise(rt: HostRuntime) -> Result<(), Fail> {
             &rt,
             rt.alloc(),
             &(start, Some(word), cause, exception, told),
-        )?;
+        );
     }
-    Ok(())
 }
 
 #[test]
-fn a_store_that_the_guest_denies(rt: HostRuntime) -> Result<(), Fail> {
+fn a_store_that_the_guest_denies(rt: HostRuntime) {
     // entry 0: the pages at 00400000, the first of which is valid and not dirty
     let mut vcpu = started(&at(USER + 0x100, USER + 0x800, 0));
     let entry = Entry {
@@ -211,14 +207,13 @@ fn a_store_that_the_guest_denies(rt: HostRuntime) -> Result<(), Fail> {
         lo1: 0,
     };
     vcpu.tlb.write(0, entry);
-    let outcome = step(rt.alloc(), &vcpu, Some(MoveKind::Break), Some(SW))?;
+    let outcome = step(&rt, rt.alloc(), &vcpu, Some(MoveKind::Break), Some(SW));
     assert!(rt; outcome.is_some());
     if let Some(outcome) = outcome {
-        assert_eq!(rt; outcome.cause, ReadOnly(SW));
-        assert_eq!(rt; outcome.told, Emulated::Forward(TlbModified(USER + 0x800)));
+        assert!(rt; outcome.cause == ReadOnly(SW));
+        assert!(rt; outcome.told == Emulated::Forward(TlbModified(USER + 0x800)));
         reads(&rt, &outcome.vcpu, CAUSE, 0x4);
         reads(&rt, &outcome.vcpu, CONTEXT, 0x2000);
         reads(&rt, &outcome.vcpu, ENTRY_HI, USER);
     }
-    Ok(())
 }

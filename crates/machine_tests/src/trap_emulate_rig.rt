@@ -1,13 +1,15 @@
 //! For the tests: a step of virtual processor 1 of 2, in a guest of 16 pages.
-ghost use Rattle.std.specs.Prelude.{◌≡◌, IfOk, IfSome, false, Option};
+ghost use Rattle.std.specs.Prelude.{◌≡◌, IfSome, false, Option};
 ghost use Rattle.private_machine.specs.Showing.{shown_by};
 ghost use Rattle.machine_tests.specs.StandIn.{Traps};
 
+use crate::telling::gave;
 use crate::trap_emulate_stand_in::{trap_at_word, trap_with_no_half};
 use base_words::{InputList, VcpuId};
 use guest_devs::Devs;
 use private_machine::Vcpu;
-use std::alloc::{AllocError, Global};
+use std::alloc::Global;
+use std::process::Abort;
 use trap_emulate::{Emulated, MoveKind, Standing, TrapCause, emulate};
 
 /// Numbers of registers of coprocessor 0.
@@ -133,17 +135,20 @@ pub fn started(start: &Start) -> Vcpu
 
 /// Why the hardware traps, with no half, or at a word.
 fn trap(
+    rt: &impl Abort,
     vcpu: &Vcpu,
     needs: Option<MoveKind>,
     word: Option<u32>,
-) -> Result<Option<TrapCause>, AllocError>
-    ensures { IfOk result (λ cause. IfSome cause (Traps vcpu.now PAGES needs)) }
+) -> Option<TrapCause>
+    ensures { IfSome result (Traps vcpu.now PAGES needs) }
 {
     match word {
-        None => Ok(trap_with_no_half(vcpu, PAGES)),
+        None => trap_with_no_half(vcpu, PAGES),
         Some(word) => {
-            let mut copy = vcpu.clone()?;
-            Ok(trap_at_word(&mut copy, PAGES, needs, word))
+            let Ok(mut copy) = vcpu.clone() else {
+                panic!(rt; "no memory is left");
+            };
+            trap_at_word(&mut copy, PAGES, needs, word)
         }
     }
 }
@@ -162,34 +167,38 @@ pub struct Outcome {
 
 /// The step of a virtual processor, where the hardware traps.
 pub fn step(
+    rt: &impl Abort,
     alloc: Global,
     vcpu: &Vcpu,
     needs: Option<MoveKind>,
     word: Option<u32>,
-) -> Result<Option<Outcome>, AllocError>
+) -> Option<Outcome>
     requires { shown_by vcpu.now ≡ record { halted = false; called = false; packet = false } }
 {
-    let Some(cause) = trap(vcpu, needs, word)? else {
-        return Ok(None);
+    let Some(cause) = trap(rt, vcpu, needs, word) else {
+        return None;
     };
-    let mut devs = Devs::new(alloc, 2, PAGES, &InputList::new(alloc))?;
-    devs.reserve()?;
-    let mut vcpus = [Vcpu::new(0), vcpu.clone()?];
+    let mut devs = gave(rt, Devs::new(alloc, 2, PAGES, &InputList::new(alloc)));
+    gave(rt, devs.reserve());
+    let Ok(copy) = vcpu.clone() else {
+        panic!(rt; "no memory is left");
+    };
+    let mut vcpus = [Vcpu::new(0), copy];
     let standing = Standing {
         vcpu: VcpuId(1),
         pages: PAGES,
         store_needs: needs,
     };
     let told = emulate(&mut vcpus, &standing, cause, &mut devs);
-    let after = vcpus[1].clone()?;
-    Ok(Some(Outcome {
+    let after = gave(rt, vcpus[1].clone());
+    Some(Outcome {
         cause,
         told,
         vcpu: after,
         status: devs.transfer(VcpuId(1)).status,
         halted: devs.halted(VcpuId(1)),
         devs,
-    }))
+    })
 }
 
 /// Whether two virtual processors are alike in all that they hold.

@@ -4,24 +4,22 @@ use crate::trap_emulate_rig::{
     started, step, with_word,
 };
 use base_words::Ppn;
-use std::test::Fail;
 use trap_emulate::TrapCause::{DataMiss, Privileged, ReadOnly};
 use trap_emulate::{DevAct, Emulated, EntryWrite, MoveKind};
 
 #[test]
-fn a_store_to_memory_needs_its_move(rt: HostRuntime) -> Result<(), Fail> {
+fn a_store_to_memory_needs_its_move(rt: HostRuntime) {
     // on the page of the program counter
     for (word, kind) in [(SW, MoveKind::Break), (SC, MoveKind::Collapse)] {
         let vcpu = started(&at(0xC000_2100, 0xC000_2800, 7));
-        let outcome = step(rt.alloc(), &vcpu, Some(kind), Some(word))?;
+        let outcome = step(&rt, rt.alloc(), &vcpu, Some(kind), Some(word));
         assert!(rt; outcome.is_some());
         if let Some(outcome) = outcome {
-            assert_eq!(rt; outcome.cause, ReadOnly(word));
-            assert_eq!(rt; outcome.told, Emulated::Need(Ppn(2), kind));
+            assert!(rt; outcome.cause == ReadOnly(word));
+            assert!(rt; outcome.told == Emulated::Need(Ppn(2), kind));
             assert!(rt; are_alike(&outcome.vcpu, &vcpu));
         }
     }
-    Ok(())
 }
 
 /// The write of an entry of the guest's TLB.
@@ -34,7 +32,7 @@ fn written(index: u8, old_pair: u32, new_pair: u32) -> Option<EntryWrite> {
 }
 
 #[test]
-fn instructions_of_coprocessor_0(rt: HostRuntime) -> Result<(), Fail> {
+fn instructions_of_coprocessor_0(rt: HostRuntime) {
     let next = CODE + 4;
     let hi = (ENTRY_HI, 0x0040_2005);
     let with = |cp0| Start {
@@ -105,21 +103,20 @@ fn instructions_of_coprocessor_0(rt: HostRuntime) -> Result<(), Fail> {
         ),
     ];
     for (start, word, entry, pc, eight, (number, read)) in rows {
-        let outcome = step(rt.alloc(), &started(&start), None, Some(word))?;
+        let outcome = step(&rt, rt.alloc(), &started(&start), None, Some(word));
         assert!(rt; outcome.is_some());
         if let Some(outcome) = outcome {
             let registers = &outcome.vcpu.registers;
-            assert_eq!(rt; outcome.cause, Privileged(word));
-            assert_eq!(rt; outcome.told, Emulated::Done(entry));
+            assert!(rt; outcome.cause == Privileged(word));
+            assert!(rt; outcome.told == Emulated::Done(entry));
             assert!(rt; registers.pc == pc && registers.general[8] == eight);
-            assert_eq!(rt; outcome.vcpu.cp0.read(number), read);
+            assert!(rt; outcome.vcpu.cp0.read(number) == read);
         }
     }
-    Ok(())
 }
 
 #[test]
-fn the_device_page(rt: HostRuntime) -> Result<(), Fail> {
+fn the_device_page(rt: HostRuntime) {
     let done = Emulated::Done(None);
     // the value in register 9, the word, the answer, register 9 afterwards, the status, and whether it has halted
     let rows: [(u32, u32, Emulated, u32, u32, bool); 7] = [
@@ -150,16 +147,15 @@ fn the_device_page(rt: HostRuntime) -> Result<(), Fail> {
     ];
     for (value, word, told, nine, status, halted) in rows {
         let vcpu = started(&at(CODE, DEVICES, value));
-        let outcome = step(rt.alloc(), &vcpu, None, Some(word))?;
+        let outcome = step(&rt, rt.alloc(), &vcpu, None, Some(word));
         assert!(rt; outcome.is_some());
         if let Some(outcome) = outcome {
-            assert_eq!(rt; outcome.cause, DataMiss(word));
-            assert_eq!(rt; outcome.told, told);
-            assert_eq!(rt; outcome.vcpu.registers.general[9], nine);
+            assert!(rt; outcome.cause == DataMiss(word));
+            assert!(rt; outcome.told == told);
+            assert!(rt; outcome.vcpu.registers.general[9] == nine);
             assert!(rt; outcome.status == status && outcome.halted == halted);
             assert!(rt; (outcome.devs.console() == [0x41].as_slice()) == (word == SW));
             assert!(rt; are_alike(&outcome.vcpu, &vcpu) == (told != done));
         }
     }
-    Ok(())
 }

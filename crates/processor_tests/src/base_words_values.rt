@@ -1,29 +1,27 @@
 //! Pages, sets and the shape of the machine, by values worked out by hand.
+use crate::telling::{gave, must, same};
 use base_words::{CellId, CellSet, FrameNo, Name, Page, ProcId, ProcSet, Sequence, Shape};
-use std::test::Fail;
 
 #[test]
-fn pages_hold_bytes_and_words(rt: HostRuntime) -> Result<(), Fail> {
+fn pages_hold_bytes_and_words(rt: HostRuntime) {
     let alloc = rt.alloc();
-    let mut page = Page::zeroed(alloc)?;
+    let mut page = gave(&rt, Page::zeroed(alloc));
     page.set_word(4092, 0x1122_3344);
     page.set_byte(1, 0xAB);
-    assert_eq!(rt; page.word_at(4092), 0x1122_3344);
-    assert_eq!(rt;
-        page.byte_at(4092),
-        0x11,
+    assert!(rt; page.word_at(4092) == 0x1122_3344);
+    assert!(rt;
+        page.byte_at(4092) == 0x11,
         "the most significant byte stands first"
     );
-    assert_eq!(rt; page.byte_at(4095), 0x44);
-    assert_eq!(rt; page.word_at(0), 0x00AB_0000);
-    let mut other = Page::zeroed(alloc)?;
+    assert!(rt; page.byte_at(4095) == 0x44);
+    assert!(rt; page.word_at(0) == 0x00AB_0000);
+    let mut other = gave(&rt, Page::zeroed(alloc));
     assert!(rt; !other.equals(&page));
     other.copy_from(&page);
     assert!(rt; other.equals(&page));
-    assert_eq!(rt; other.bytes().len(), 4096);
+    assert!(rt; other.bytes().len() == 4096);
     other.fill_from(4094, &[1, 2]);
-    assert_eq!(rt; other.word_at(4092), 0x1122_0102);
-    Ok(())
+    assert!(rt; other.word_at(4092) == 0x1122_0102);
 }
 
 #[test]
@@ -40,31 +38,35 @@ fn sets_have_their_members(rt: HostRuntime) {
 }
 
 #[test]
-fn frames_lie_node_by_node(rt: HostRuntime) -> Result<(), Fail> {
+fn frames_lie_node_by_node(rt: HostRuntime) {
     let alloc = rt.alloc();
     let mut cells = Sequence::new(alloc);
-    cells.push(CellId(1))?;
-    cells.push(CellId(0))?;
-    assert_eq!(rt; cells.len(), 2);
+    must(&rt, cells.push(CellId(1)));
+    must(&rt, cells.push(CellId(0)));
+    assert!(rt; cells.len() == 2);
     let shape = Shape {
         nodes: 2,
         frames: 16,
         cells,
     };
     for (frame, node, cell) in [(0, 0, 1), (15, 0, 1), (16, 1, 0), (31, 1, 0)] {
-        assert_eq!(rt; shape.node_of(FrameNo(frame)).0, node, "node of {frame}");
-        assert_eq!(rt;
+        same(
+            &rt,
+            shape.node_of(FrameNo(frame)).0,
+            node,
+            ("node of", frame),
+        );
+        same(
+            &rt,
             shape.cell_of(FrameNo(frame)),
             CellId(cell),
-            "cell of {frame}"
+            ("cell of", frame),
         );
     }
-    Ok(())
 }
 
 #[test]
-fn names_are_their_texts(rt: HostRuntime) -> Result<(), Fail> {
-    let name = Name::copy_of(rt.alloc(), "a.raw")?;
-    assert_eq!(rt; name.as_str(), "a.raw");
-    Ok(())
+fn names_are_their_texts(rt: HostRuntime) {
+    let name = gave(&rt, Name::copy_of(rt.alloc(), "a.raw"));
+    assert!(rt; name.as_str() == "a.raw");
 }

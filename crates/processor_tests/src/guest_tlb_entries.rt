@@ -1,5 +1,6 @@
 //! Values worked out by hand from the manual's layout: EntryHi has VPN2 in bits 31 to 13 and ASID in 7 to 0, EntryLo has PFN in
 //! 29 to 6, C in 5 to 3, D, V and G in 2, 1 and 0.
+use crate::telling::same;
 use guest_tlb::{Entry, Tlb48, TlbAnswer};
 use std::process::Abort;
 
@@ -28,16 +29,17 @@ fn with_pair(lo0: u32, lo1: u32) -> Tlb48 {
 
 /// An access in an address space is answered so.
 fn finds(rt: &impl Abort, tlb: &Tlb48, address: u32, asid: u8, store: bool, answer: TlbAnswer) {
-    assert_eq!(rt;
+    same(
+        rt,
         tlb.lookup(address, asid, store),
         answer,
-        "{address:x} in {asid}"
+        (address, asid),
     );
 }
 
 /// A probe finds this entry, or none.
 fn probes_to(rt: &impl Abort, tlb: &Tlb48, hi: u32, index: Option<u8>, about: &str) {
-    assert_eq!(rt; tlb.probe(hi), index, "{about}");
+    same(rt, tlb.probe(hi), index, about);
 }
 
 #[test]
@@ -117,7 +119,7 @@ fn entries_at_the_start(rt: HostRuntime) {
         (255, 0), // the highest number
     ];
     for (index, hi) in rows {
-        assert_eq!(rt; tlb.read(index), Entry { hi, lo0: 0, lo1: 0 });
+        assert!(rt; tlb.read(index) == Entry { hi, lo0: 0, lo1: 0 });
     }
 }
 
@@ -131,8 +133,8 @@ fn a_write_past_the_last(rt: HostRuntime) {
             lo1: SEVEN,
         };
         tlb.write(index, entry);
-        assert_eq!(rt; tlb, Tlb48::new());
-        assert_eq!(rt; tlb.read(index), ZEROS);
+        assert!(rt; tlb == Tlb48::new());
+        assert!(rt; tlb.read(index) == ZEROS);
     }
 }
 
@@ -161,7 +163,7 @@ fn what_an_entry_keeps(rt: HostRuntime) {
             lo0: kept_lo0,
             lo1: kept_lo1,
         };
-        assert_eq!(rt; tlb.read(47), kept);
+        assert!(rt; tlb.read(47) == kept);
     }
 }
 

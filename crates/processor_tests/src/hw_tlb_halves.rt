@@ -1,4 +1,5 @@
 //! Values worked out by hand: a virtual page is its address without the low 12 bits, a pair of them without the low 13.
+use crate::telling::same;
 use base_words::{FrameNo, Ppn};
 use hw_tlb::{HwAnswer, HwTlb};
 use std::process::Abort;
@@ -21,10 +22,11 @@ fn hit(page: u8) -> HwAnswer {
 
 /// An access in an address space is answered so.
 fn finds(rt: &impl Abort, tlb: &HwTlb, address: u32, asid: u8, store: bool, answer: HwAnswer) {
-    assert_eq!(rt;
+    same(
+        rt,
         tlb.lookup(address, asid, store),
         answer,
-        "{address:x} in {asid}"
+        (address, asid),
     );
 }
 

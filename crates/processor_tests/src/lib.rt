@@ -25,3 +25,5 @@ mod mips_cp0_registers;
 mod mips_isa_words;
 #[cfg(test)]
 mod mips_retire_results;
+#[cfg(test)]
+mod telling;

@@ -1,5 +1,6 @@
 //! Computational instructions, with values worked out by hand from the manual's descriptions.
 use crate::mips_alu_rig::{computes, gives, holding, outcome, passes, r, raises};
+use crate::telling::same;
 use base_words::{AluOp, Exception, Half, Instr, MulOp, Register, ShiftOp};
 
 /// Register 1 is `rs`, register 2 `rt`, and register 3 `rd`. None stands for an overflow.
@@ -255,6 +256,6 @@ fn sources_and_targets(rt: HostRuntime) {
         ),
     ];
     for (name, instr, start, want) in rows {
-        assert_eq!(rt; outcome(instr, start), want, "ADD {name}");
+        same(&rt, &outcome(instr, start), &want, ("ADD", name));
     }
 }

@@ -2,6 +2,7 @@
 use crate::mips_alu_rig::{
     AFTER, HERE, Outcome, gives, holding, leads, outcome, r, skips, with_register,
 };
+use crate::telling::same;
 use base_words::{Cond, Instr, JumpIndex, Regs, Request, Untaken};
 
 /// The offsets 3 and -2, and the addresses to which they lead.
@@ -148,7 +149,7 @@ fn far_branches(rt: HostRuntime) {
             offset,
         };
         let (_, after) = outcome(instr, before);
-        assert_eq!(rt; after.slot, Some(target), "{offset} words from {pc}");
+        same(&rt, after.slot, Some(target), (offset, pc));
     }
 }
 

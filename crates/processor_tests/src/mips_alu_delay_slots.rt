@@ -1,5 +1,6 @@
 //! Instructions in a delay slot, with answers worked out by hand from the manual's descriptions.
 use crate::mips_alu_rig::{Outcome, asks, gives, holding, outcome, r, raises};
+use crate::telling::same;
 use base_words::{
     AluOp, Cond, Cp0Op, Exception, Instr, JumpIndex, Regs, Request, StoreKind, Untaken,
 };
@@ -68,7 +69,7 @@ fn where_a_delay_slot_leads(rt: HostRuntime) {
         ),
     ];
     for (name, instr, before, want) in rows {
-        assert_eq!(rt; outcome(instr, before), want, "{name}");
+        same(&rt, &outcome(instr, before), &want, name);
     }
 }
 

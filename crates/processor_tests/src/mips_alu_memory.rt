@@ -1,5 +1,6 @@
 //! Loads and stores, big-endian, with values worked out by hand from the manual's descriptions.
 use crate::mips_alu_rig::{asks, gives, holding, r};
+use crate::telling::same;
 use base_words::{Instr, LoadKind, Request, StoreKind};
 use mips_alu::{load_unit, loaded_value, store_unit, stored_word};
 
@@ -90,7 +91,7 @@ fn each_byte_that_is_loaded_from(rt: HostRuntime) {
         (LoadKind::WordRight, 3, Some(0x8172_73F4)),
     ];
     for (kind, byte, value) in rows {
-        assert_eq!(rt; loaded(kind, byte), value, "{kind:?} from byte {byte}");
+        same(&rt, loaded(kind, byte), value, ("from byte", kind, byte));
     }
 }
 
@@ -119,7 +120,7 @@ fn each_byte_that_is_stored_to(rt: HostRuntime) {
         (StoreKind::WordRight, 3, Some(0xAABB_CCDD)),
     ];
     for (kind, byte, word) in rows {
-        assert_eq!(rt; stored(kind, byte), word, "{kind:?} to byte {byte}");
+        same(&rt, stored(kind, byte), word, ("to byte", kind, byte));
     }
 }
 
@@ -128,13 +129,13 @@ fn each_byte_that_is_stored_to(rt: HostRuntime) {
 fn a_word_across_two(rt: HostRuntime) {
     let left = loaded_value(LoadKind::WordLeft, 0x0011_2233, REGISTER, 1);
     let both = loaded_value(LoadKind::WordRight, 0x4455_6677, left, 0);
-    assert_eq!(rt; both, 0x1122_3344);
+    assert!(rt; both == 0x1122_3344);
     let right = loaded_value(LoadKind::WordRight, 0x4455_6677, REGISTER, 0);
     let both = loaded_value(LoadKind::WordLeft, 0x0011_2233, right, 1);
-    assert_eq!(rt; both, 0x1122_3344);
+    assert!(rt; both == 0x1122_3344);
     let first = stored_word(StoreKind::WordLeft, 0x0011_2233, REGISTER, 1);
     let second = stored_word(StoreKind::WordRight, 0x4455_6677, REGISTER, 0);
-    assert_eq!(rt; (first, second), (0x00AA_BBCC, 0xDD55_6677));
+    assert!(rt; (first, second) == (0x00AA_BBCC, 0xDD55_6677));
 }
 
 /// Register 1 is the base, and register 2 what is loaded. An address that isn't aligned is asked for as it is.

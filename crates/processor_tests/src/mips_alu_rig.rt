@@ -1,6 +1,7 @@
 //! What the tests of instructions begin with, and how they look at one.
 ghost use Rattle.std.specs.Prelude.{◌≡◌, ◌<◌};
 
+use crate::telling::same;
 use base_words::{Exception, Instr, Register, Regs, Request};
 use mips_alu::execute;
 use std::process::Abort;
@@ -46,7 +47,7 @@ pub fn outcome(instr: Instr, before: Regs) -> Outcome {
 
 /// What an instruction does is what is wanted.
 pub fn gives(rt: &impl Abort, instr: Instr, before: Regs, want: Outcome) {
-    assert_eq!(rt; outcome(instr, before), want, "{instr:?}");
+    same(rt, &outcome(instr, before), &want, &instr);
 }
 
 /// The instruction is done, and the next one follows.

@@ -1,4 +1,5 @@
 //! Values worked out by hand from the manual's layout of the registers.
+use crate::telling::same;
 use base_words::{Exception, Use};
 use mips_cp0::Cp0;
 use std::process::Abort;
@@ -34,17 +35,17 @@ fn with_status(word: u32) -> Cp0 {
 
 /// A register reads a word.
 fn reads(rt: &impl Abort, cp0: &Cp0, number: u8, word: u32) {
-    assert_eq!(rt; cp0.read(number), word, "register {number}");
+    same(rt, cp0.read(number), word, ("register", number));
 }
 
 /// An exception of an instruction, which may be in a delay slot, leads to where it is handled.
 fn enters(rt: &impl Abort, cp0: &mut Cp0, exception: Exception, pc: u32, in_slot: bool, to: u32) {
-    assert_eq!(rt; cp0.enter(exception, pc, in_slot), to, "{exception:?}");
+    same(rt, cp0.enter(exception, pc, in_slot), to, exception);
 }
 
 /// ERET leads to an address.
 fn returns(rt: &impl Abort, cp0: &mut Cp0, to: u32) {
-    assert_eq!(rt; cp0.eret(), to);
+    assert!(rt; cp0.eret() == to);
 }
 
 #[test]
@@ -108,7 +109,7 @@ fn a_mode_that_is_not_the_kernels_is_user_mode(rt: HostRuntime) {
     for (written, read, user) in rows {
         let cp0 = with_status(written);
         reads(&rt, &cp0, STATUS, read);
-        assert_eq!(rt; cp0.is_user(), user);
+        assert!(rt; cp0.is_user() == user);
     }
 }
 
@@ -313,7 +314,7 @@ fn random_counts_down_to_wired_and_begins_again(rt: HostRuntime) {
         // from 47 down to Wired there are 48 - Wired values; from 47 on it stands still
         let values: u32 = if wired < 47 { 48 - wired } else { 1 };
         for steps in [0, 1, 2, 46, 47, 48, 49, 100] {
-            assert_eq!(rt; random_after(wired, steps), 47 - steps % values);
+            assert!(rt; random_after(wired, steps) == 47 - steps % values);
         }
     }
 }
@@ -362,7 +363,7 @@ fn a_timer_set_by_a_program_interrupts_after_so_many_steps(rt: HostRuntime) {
     cp0.write(STATUS, 0x8001);
     cp0.tick();
     // 16 steps bring Count from 4 to 20
-    assert_eq!(rt; cp0.quiet_steps(), 16);
+    assert!(rt; cp0.quiet_steps() == 16);
     for _ in 4..19 {
         cp0.tick();
         assert!(rt; !cp0.pending());
@@ -371,7 +372,7 @@ fn a_timer_set_by_a_program_interrupts_after_so_many_steps(rt: HostRuntime) {
     cp0.tick();
     reads(&rt, &cp0, COUNT, 20);
     assert!(rt; cp0.pending());
-    assert_eq!(rt; cp0.quiet_steps(), 0);
+    assert!(rt; cp0.quiet_steps() == 0);
     enters(
         &rt,
         &mut cp0,
@@ -406,7 +407,7 @@ fn three_interrupts_are_lines(rt: HostRuntime) {
         (255, 0),
     ];
     for (ip, cause) in rows {
-        assert_eq!(rt; with_line(ip), cause);
+        assert!(rt; with_line(ip) == cause);
     }
 }
 
@@ -450,7 +451,7 @@ fn an_interrupt_comes_where_it_is_enabled_let_through_and_pending(rt: HostRuntim
         (0x201, 0x100, false, false),
     ];
     for (status, cause, input, comes) in rows {
-        assert_eq!(rt; interrupts(status, cause, input), comes);
+        assert!(rt; interrupts(status, cause, input) == comes);
     }
 }
 
@@ -469,5 +470,5 @@ fn a_probe_leaves_its_entry_or_that_there_is_none(rt: HostRuntime) {
 fn the_address_space_is_the_low_byte_of_entry_hi(rt: HostRuntime) {
     let mut cp0 = Cp0::new();
     cp0.write(ENTRY_HI, 0xFFFF_E142);
-    assert_eq!(rt; cp0.asid(), 0x42);
+    assert!(rt; cp0.asid() == 0x42);
 }

@@ -1,6 +1,7 @@
 //! Words and their instructions, by the manual's encodings.
 ghost use Rattle.std.specs.Prelude.{◌≡◌, ◌<◌};
 
+use crate::telling::same;
 use mips_isa::{
     AluOp, Cond, Cp0Op, Half, Instr, JumpIndex, LoadKind, MulOp, Register, ShiftOp, StoreKind,
     SystemCode, TrapCode, Untaken, decode, encode,
@@ -16,8 +17,8 @@ fn r(number: u32) -> Register
 
 /// A word is an instruction's, and the instruction the word's.
 fn encodes(rt: &impl Abort, word: u32, instr: &Instr, name: &str) {
-    assert_eq!(rt; decode(word), *instr, "{name}");
-    assert_eq!(rt; encode(instr), word, "{name}");
+    same(rt, decode(word), *instr, name);
+    same(rt, encode(instr), word, name);
 }
 
 #[test]

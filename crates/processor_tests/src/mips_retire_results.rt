@@ -21,11 +21,11 @@ fn a_result_is_written_and_the_next_instruction_follows(rt: HostRuntime) {
     vcpu.registers.slot = Some(0xC000_0200);
     put(&mut vcpu, Register::new(0), 7);
     assert!(rt; vcpu.registers.general[0] == 0 && vcpu.registers.pc == 0xC000_0200);
-    assert!(rt; vcpu.registers.slot == None);
+    assert!(rt; vcpu.registers.slot.is_none());
     put_linked(&mut vcpu, Register::new(9), 5, 33);
     assert!(rt; vcpu.registers.general[9] == 5 && vcpu.link == Some(33));
     put_unlinked(&mut vcpu, Register::new(9), 1);
-    assert!(rt; vcpu.registers.general[9] == 1 && vcpu.link == None);
+    assert!(rt; vcpu.registers.general[9] == 1 && vcpu.link.is_none());
     pass(&mut vcpu);
     assert!(rt; vcpu.registers.pc == 0xC000_020C);
 }
@@ -48,5 +48,5 @@ fn the_tlb_is_passed_and_a_return_leads_on_by_itself(rt: HostRuntime) {
     vcpu.cp0.write(EPC, 0xC000_0400);
     vcpu.link = Some(1);
     do_system(&mut vcpu, Cp0Op::ExceptionReturn);
-    assert!(rt; vcpu.registers.pc == 0xC000_0400 && vcpu.link == None);
+    assert!(rt; vcpu.registers.pc == 0xC000_0400 && vcpu.link.is_none());
 }

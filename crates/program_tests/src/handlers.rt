@@ -1,11 +1,11 @@
 //! Programs that handle exceptions, interrupts and system calls, with the console derived by hand.
 use crate::programs::START;
 use crate::rows::{Row, halts, try_row};
+use crate::telling::must;
 use run_cases::file_of_parts;
-use std::alloc::{AllocError, Global};
+use std::alloc::Global;
 use std::process::Abort;
 use std::sync::Wait;
-use std::test::Fail;
 use std::thread::Threads;
 
 /// From C0000180 on: prints the exception's code, A for 0, and halts.
@@ -25,11 +25,14 @@ fn try_exception<R: Abort + Threads + Wait + Sync>(
     about: &str,
     program: &[u32],
     output: &str,
-) -> Result<(), AllocError> {
-    let file = file_of_parts(
-        alloc,
-        &[(0, &START), (8, program), (0x180, &TELLS_THE_CODE)],
-    )?;
+) {
+    let file = must(
+        rt,
+        file_of_parts(
+            alloc,
+            &[(0, &START), (8, program), (0x180, &TELLS_THE_CODE)],
+        ),
+    );
     try_row(
         rt,
         alloc,
@@ -44,7 +47,7 @@ fn try_exception<R: Abort + Threads + Wait + Sync>(
 }
 
 #[test]
-fn exceptions_are_told(rt: HostRuntime) -> Result<(), Fail> {
+fn exceptions_are_told(rt: HostRuntime) {
     let alloc = rt.alloc();
     for (about, program, output) in [
         (
@@ -108,40 +111,42 @@ fn exceptions_are_told(rt: HostRuntime) -> Result<(), Fail> {
             "guest 0 console 1\nN\nend halted\n",
         ),
     ] {
-        try_exception(&rt, alloc, about, &program, output)?;
+        try_exception(&rt, alloc, about, &program, output);
     }
-    Ok(())
 }
 
 #[test]
-fn the_timer_interrupts(rt: HostRuntime) -> Result<(), Fail> {
+fn the_timer_interrupts(rt: HostRuntime) {
     let alloc = rt.alloc();
-    let file = file_of_parts(
-        alloc,
-        &[
-            (
-                0,
-                &[
-                    0x2408_0014,
-                    0x4088_5800,
-                    0x3408_8001,
-                    0x4088_6000,
-                    0x1000_FFFF,
-                    0x0000_0000,
-                ],
-            ),
-            (
-                0x180,
-                &[
-                    0x3C10_CFFF,
-                    0x3610_F000,
-                    0x2409_0054,
-                    0xAE09_0000,
-                    0xAE00_0004,
-                ],
-            ),
-        ],
-    )?;
+    let file = must(
+        &rt,
+        file_of_parts(
+            alloc,
+            &[
+                (
+                    0,
+                    &[
+                        0x2408_0014,
+                        0x4088_5800,
+                        0x3408_8001,
+                        0x4088_6000,
+                        0x1000_FFFF,
+                        0x0000_0000,
+                    ],
+                ),
+                (
+                    0x180,
+                    &[
+                        0x3C10_CFFF,
+                        0x3610_F000,
+                        0x2409_0054,
+                        0xAE09_0000,
+                        0xAE00_0004,
+                    ],
+                ),
+            ],
+        ),
+    );
     for (steps, output) in [
         ("26", "guest 0 console 1\nT\nend halted\n"),
         ("25", "guest 0 console 1\nT\nend budget\n"),
@@ -157,9 +162,8 @@ fn the_timer_interrupts(rt: HostRuntime) -> Result<(), Fail> {
                 output,
                 ..halts()
             },
-        )?;
+        );
     }
-    Ok(())
 }
 
 /// A kernel's start, at which a TLB refill goes on too: where no exception is being handled the timer is set to 40, and user
@@ -244,18 +248,21 @@ const USER_CODE: [u32; 16] = [
 ];
 
 #[test]
-fn a_kernel_runs_user_code(rt: HostRuntime) -> Result<(), Fail> {
+fn a_kernel_runs_user_code(rt: HostRuntime) {
     let alloc = rt.alloc();
-    let file = file_of_parts(
-        alloc,
-        &[
-            (0, &KERNEL_START),
-            (0x100, &KERNEL_REFILL),
-            (0x180, &KERNEL_VECTOR),
-            (0x1C0, &KERNEL_CALLS),
-            (0x1000, &USER_CODE),
-        ],
-    )?;
+    let file = must(
+        &rt,
+        file_of_parts(
+            alloc,
+            &[
+                (0, &KERNEL_START),
+                (0x100, &KERNEL_REFILL),
+                (0x180, &KERNEL_VECTOR),
+                (0x1C0, &KERNEL_CALLS),
+                (0x1000, &USER_CODE),
+            ],
+        ),
+    );
     try_row(
         &rt,
         alloc,
@@ -266,6 +273,5 @@ fn a_kernel_runs_user_code(rt: HostRuntime) -> Result<(), Fail> {
             output: "guest 0 console 4\nRUTV\nend halted\n",
             ..halts()
         },
-    )?;
-    Ok(())
+    );
 }

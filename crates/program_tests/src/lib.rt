@@ -18,6 +18,8 @@ mod spaces;
 #[cfg(test)]
 mod states;
 #[cfg(test)]
+mod telling;
+#[cfg(test)]
 mod tests;
 #[cfg(test)]
 mod texts;

@@ -1,10 +1,10 @@
 //! Small raw programs, one a group of the instruction table, with the console derived by hand.
 use crate::rows::{Row, halts, try_row};
+use crate::telling::must;
 use run_cases::file_of_parts;
-use std::alloc::{AllocError, Global};
+use std::alloc::Global;
 use std::process::Abort;
 use std::sync::Wait;
-use std::test::Fail;
 use std::thread::Threads;
 
 /// LUI 1, CFFF; ORI 1, 1, F000: register 1 is the device page.
@@ -18,8 +18,8 @@ fn try_program<R: Abort + Threads + Wait + Sync>(
     program: &[u32],
     steps: &str,
     output: &str,
-) -> Result<(), AllocError> {
-    let file = file_of_parts(alloc, &[(0, &START), (8, program)])?;
+) {
+    let file = must(rt, file_of_parts(alloc, &[(0, &START), (8, program)]));
     try_row(
         rt,
         alloc,
@@ -34,7 +34,7 @@ fn try_program<R: Abort + Threads + Wait + Sync>(
 }
 
 #[test]
-fn computes(rt: HostRuntime) -> Result<(), Fail> {
+fn computes(rt: HostRuntime) {
     let alloc = rt.alloc();
     try_program(
         &rt,
@@ -43,7 +43,7 @@ fn computes(rt: HostRuntime) -> Result<(), Fail> {
         &[0x2402_0021, 0x0002_1040, 0xAC22_0000, 0xAC20_0004],
         "40",
         "guest 0 console 1\nB\nend halted\n",
-    )?;
+    );
     try_program(
         &rt,
         alloc,
@@ -51,7 +51,7 @@ fn computes(rt: HostRuntime) -> Result<(), Fail> {
         &[0x3C02_8410, 0x0002_1503, 0xAC22_0000, 0xAC20_0004],
         "40",
         "guest 0 console 1\nA\nend halted\n",
-    )?;
+    );
     try_program(
         &rt,
         alloc,
@@ -66,7 +66,7 @@ fn computes(rt: HostRuntime) -> Result<(), Fail> {
         ],
         "40",
         "guest 0 console 1\nA\nend halted\n",
-    )?;
+    );
     try_program(
         &rt,
         alloc,
@@ -81,7 +81,7 @@ fn computes(rt: HostRuntime) -> Result<(), Fail> {
         ],
         "40",
         "guest 0 console 1\nB\nend halted\n",
-    )?;
+    );
     try_program(
         &rt,
         alloc,
@@ -95,7 +95,7 @@ fn computes(rt: HostRuntime) -> Result<(), Fail> {
         ],
         "40",
         "guest 0 console 1\nA\nend halted\n",
-    )?;
+    );
     try_program(
         &rt,
         alloc,
@@ -112,12 +112,11 @@ fn computes(rt: HostRuntime) -> Result<(), Fail> {
         ],
         "40",
         "guest 0 console 2\nBA\nend halted\n",
-    )?;
-    Ok(())
+    );
 }
 
 #[test]
-fn branches_and_jumps(rt: HostRuntime) -> Result<(), Fail> {
+fn branches_and_jumps(rt: HostRuntime) {
     let alloc = rt.alloc();
     try_program(
         &rt,
@@ -126,7 +125,7 @@ fn branches_and_jumps(rt: HostRuntime) -> Result<(), Fail> {
         &[0x2402_0042, 0xAC22_0000, 0x0800_0003, 0x2400_0000],
         "9",
         "guest 0 console 2\nBB\nend budget\n",
-    )?;
+    );
     try_program(
         &rt,
         alloc,
@@ -142,7 +141,7 @@ fn branches_and_jumps(rt: HostRuntime) -> Result<(), Fail> {
         ],
         "40",
         "guest 0 console 3\nCBA\nend halted\n",
-    )?;
+    );
     try_program(
         &rt,
         alloc,
@@ -157,7 +156,7 @@ fn branches_and_jumps(rt: HostRuntime) -> Result<(), Fail> {
         ],
         "40",
         "guest 0 console 1\nA\nend halted\n",
-    )?;
+    );
     try_program(
         &rt,
         alloc,
@@ -174,7 +173,7 @@ fn branches_and_jumps(rt: HostRuntime) -> Result<(), Fail> {
         ],
         "40",
         "guest 0 console 1\nA\nend halted\n",
-    )?;
+    );
     try_program(
         &rt,
         alloc,
@@ -190,7 +189,7 @@ fn branches_and_jumps(rt: HostRuntime) -> Result<(), Fail> {
         ],
         "40",
         "guest 0 console 1\nA\nend halted\n",
-    )?;
+    );
     try_program(
         &rt,
         alloc,
@@ -204,7 +203,7 @@ fn branches_and_jumps(rt: HostRuntime) -> Result<(), Fail> {
         ],
         "40",
         "guest 0 console 1\nA\nend halted\n",
-    )?;
+    );
     try_program(
         &rt,
         alloc,
@@ -218,12 +217,11 @@ fn branches_and_jumps(rt: HostRuntime) -> Result<(), Fail> {
         ],
         "40",
         "guest 0 console 1\nA\nend halted\n",
-    )?;
-    Ok(())
+    );
 }
 
 #[test]
-fn loads_and_stores(rt: HostRuntime) -> Result<(), Fail> {
+fn loads_and_stores(rt: HostRuntime) {
     let alloc = rt.alloc();
     try_program(
         &rt,
@@ -239,7 +237,7 @@ fn loads_and_stores(rt: HostRuntime) -> Result<(), Fail> {
         ],
         "7",
         "guest 0 console 2\nAB\nend budget\n",
-    )?;
+    );
     try_program(
         &rt,
         alloc,
@@ -255,7 +253,7 @@ fn loads_and_stores(rt: HostRuntime) -> Result<(), Fail> {
         ],
         "40",
         "guest 0 console 1\nA\nend halted\n",
-    )?;
+    );
     try_program(
         &rt,
         alloc,
@@ -275,7 +273,7 @@ fn loads_and_stores(rt: HostRuntime) -> Result<(), Fail> {
         ],
         "40",
         "guest 0 console 2\nDA\nend halted\n",
-    )?;
+    );
     try_program(
         &rt,
         alloc,
@@ -294,7 +292,7 @@ fn loads_and_stores(rt: HostRuntime) -> Result<(), Fail> {
         ],
         "40",
         "guest 0 console 2\nAB\nend halted\n",
-    )?;
+    );
     try_program(
         &rt,
         alloc,
@@ -313,6 +311,5 @@ fn loads_and_stores(rt: HostRuntime) -> Result<(), Fail> {
         ],
         "40",
         "guest 0 console 2\nAC\nend halted\n",
-    )?;
-    Ok(())
+    );
 }

@@ -1,9 +1,10 @@
 //! Calls over one file, by their words.
+use crate::telling::{must, same};
 use guest_core::RunRecord;
 use monitor_run::disco;
 use outside_io::{CallList, FileList, FreeGate, MemShelf, MemSink};
 use run_cases::{PRINTS_A, held, words_of};
-use std::alloc::{AllocError, Global};
+use std::alloc::Global;
 use std::process::Abort;
 use std::sync::Wait;
 use std::thread::Threads;
@@ -38,28 +39,38 @@ pub(crate) fn halts<'a>() -> Row<'a> {
 }
 
 /// A shelf that holds one file.
-fn shelf_of(alloc: Global, name: &str, file: &[u8], fails: &[u64]) -> Result<MemShelf, AllocError> {
+fn shelf_of(rt: &impl Abort, alloc: Global, name: &str, file: &[u8], fails: &[u64]) -> MemShelf {
     let mut files = FileList::new(alloc);
-    files.push(held(alloc, name, file.to_vec(alloc)?)?)?;
-    Ok(MemShelf::new(alloc, files, CallList::from_vec(fails.to_vec(alloc)?)))
+    must(
+        rt,
+        files.push(must(rt, held(alloc, name, must(rt, file.to_vec(alloc))))),
+    );
+    MemShelf::new(
+        alloc,
+        files,
+        CallList::from_vec(must(rt, fails.to_vec(alloc))),
+    )
 }
 
 /// Makes the call of a row, and compares status, output and record.
-pub(crate) fn try_row<R: Abort + Threads + Wait + Sync>(
-    rt: &R,
-    alloc: Global,
-    row: &Row,
-) -> Result<(), AllocError> {
-    let mut shelf = shelf_of(alloc, row.name, row.file, row.shelf_fails)?;
-    let mut sink = MemSink::new(alloc, CallList::from_vec(row.sink_fails.to_vec(alloc)?));
-    let words = words_of(alloc, row.words)?;
+pub(crate) fn try_row<R: Abort + Threads + Wait + Sync>(rt: &R, alloc: Global, row: &Row) {
+    let mut shelf = shelf_of(rt, alloc, row.name, row.file, row.shelf_fails);
+    let mut sink = MemSink::new(
+        alloc,
+        CallList::from_vec(must(rt, row.sink_fails.to_vec(alloc))),
+    );
+    let words = must(rt, words_of(alloc, row.words));
     let mut out = RunRecord::empty(alloc);
     let status = disco(
         rt, alloc, &words, &mut shelf, &mut sink, &FreeGate, &mut out,
     );
     let about = row.about;
-    assert_eq!(rt; status, row.status, "status of {about}");
-    assert_eq!(rt; sink.bytes(), row.output.as_bytes(), "output of {about}");
-    assert_eq!(rt; out.guests.len(), row.guests, "record of {about}");
-    Ok(())
+    same(rt, status, row.status, ("status of", about));
+    same(
+        rt,
+        sink.bytes(),
+        row.output.as_bytes(),
+        ("output of", about),
+    );
+    same(rt, out.guests.len(), row.guests, ("record of", about));
 }

@@ -1,5 +1,7 @@
 //! What comes of a run of what is made from 7.
-use std::alloc::{AllocError, Global};
+use crate::telling::must;
+use std::alloc::Global;
+use std::process::Abort;
 
 /// The report of what is made from 7, but for the sums.
 pub(crate) const SEVEN: &str = "guest 0 console 37
@@ -17,12 +19,12 @@ end budget
 ";
 
 /// The lines of a report that are no sums, whole or not.
-pub(crate) fn without_sums(alloc: Global, report: &str) -> Result<String, AllocError> {
+pub(crate) fn without_sums(rt: &impl Abort, alloc: Global, report: &str) -> String {
     let mut kept = String::new(alloc);
     for line in report.split_inclusive('\n') {
         if !line.starts_with("sums") {
-            kept.push_str(line)?;
+            must(rt, kept.push_str(line));
         }
     }
-    Ok(kept)
+    kept
 }

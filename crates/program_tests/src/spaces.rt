@@ -1,7 +1,7 @@
 //! A guest with two address spaces, whose TLB is full.
 use crate::rows::{Row, halts, try_row};
+use crate::telling::must;
 use run_cases::file_of_parts;
-use std::test::Fail;
 
 /// Pages 4 to 7 begin with a, b, c and d. Entries 0 to 23 map 24 virtual pages in address space 1 to pages 4, 5, 6, 7, 4 and so on;
 /// entries 24 to 47 map the same virtual pages in address space 2, each to the page after. The letter of each virtual page is printed
@@ -79,10 +79,13 @@ const TWO_SPACES: [u32; 66] = [
 const LETTERS: &str = "abbccddaabbccddaabbccddaabbccddaabbccddaabbccddacdabcdabcdabcdabcdabcdab";
 
 #[test]
-fn two_address_spaces_fill_the_tlb(rt: HostRuntime) -> Result<(), Fail> {
+fn two_address_spaces_fill_the_tlb(rt: HostRuntime) {
     let alloc = rt.alloc();
-    let file = file_of_parts(alloc, &[(0, &TWO_SPACES)])?;
-    let output = format!(in alloc; "guest 0 console 72\n{LETTERS}\nend halted\n")?;
+    let file = must(&rt, file_of_parts(alloc, &[(0, &TWO_SPACES)]));
+    let output = must(
+        &rt,
+        format!(in alloc; "guest 0 console 72\n{LETTERS}\nend halted\n"),
+    );
     try_row(
         &rt,
         alloc,
@@ -93,6 +96,5 @@ fn two_address_spaces_fill_the_tlb(rt: HostRuntime) -> Result<(), Fail> {
             output: output.as_str(),
             ..halts()
         },
-    )?;
-    Ok(())
+    );
 }

@@ -1,11 +1,11 @@
 //! Registers and TLB entries as a guest finds them, after steps that were worked out by hand. A guest prints A for each value that is as
 //! expected, and @ for another one.
 use crate::rows::{Row, halts, try_row};
+use crate::telling::must;
 use run_cases::file_of_parts;
-use std::alloc::{AllocError, Global};
+use std::alloc::Global;
 use std::process::Abort;
 use std::sync::Wait;
-use std::test::Fail;
 use std::thread::Threads;
 
 /// Runs a file of these parts, at most 200 steps, and compares what is written.
@@ -15,8 +15,8 @@ fn try_parts<R: Abort + Threads + Wait + Sync>(
     about: &str,
     parts: &[(usize, &[u32])],
     output: &str,
-) -> Result<(), AllocError> {
-    let file = file_of_parts(alloc, parts)?;
+) {
+    let file = must(rt, file_of_parts(alloc, parts));
     try_row(
         rt,
         alloc,
@@ -77,15 +77,14 @@ const TELLS_WHERE: [u32; 28] = [
 ];
 
 #[test]
-fn an_overflow_in_a_delay_slot_leads_back_to_its_branch(rt: HostRuntime) -> Result<(), Fail> {
+fn an_overflow_in_a_delay_slot_leads_back_to_its_branch(rt: HostRuntime) {
     try_parts(
         &rt,
         rt.alloc(),
         "the sum in the delay slot",
         &[(0, &OVERFLOWS), (0x180, &TELLS_WHERE), (0x200, &BRANCHES)],
         "guest 0 console 4\nAAAA\nend halted\n",
-    )?;
-    Ok(())
+    );
 }
 
 /// An instruction with register 3 and the word at register 1, and what is in register 3 once it was made, and for a store once the word
@@ -123,10 +122,10 @@ const BEFORE: [u32; 9] = [
 ];
 
 #[test]
-fn parts_of_words_are_loaded_and_stored(rt: HostRuntime) -> Result<(), Fail> {
+fn parts_of_words_are_loaded_and_stored(rt: HostRuntime) {
     let alloc = rt.alloc();
     for (made, loaded, expected) in MERGES {
-        let about = format!(in alloc; "{made:08X}")?;
+        let about = must(&rt, format!(in alloc; "{made:08X}"));
         let program = [
             made,
             loaded,
@@ -144,9 +143,8 @@ fn parts_of_words_are_loaded_and_stored(rt: HostRuntime) -> Result<(), Fail> {
             about.as_str(),
             &[(0, &BEFORE), (36, &program)],
             "guest 0 console 1\nA\nend halted\n",
-        )?;
+        );
     }
-    Ok(())
 }
 
 /// The virtual pages D0000000 and D0001000 are pages 4 and 5, the next pair is nothing. The last word of page 5 is 11223344, and register
@@ -210,15 +208,14 @@ const OVER_A_BOUNDARY: [u32; 54] = [
 ];
 
 #[test]
-fn the_second_half_of_a_load_may_miss(rt: HostRuntime) -> Result<(), Fail> {
+fn the_second_half_of_a_load_may_miss(rt: HostRuntime) {
     try_parts(
         &rt,
         rt.alloc(),
         "a load over the end of what is mapped",
         &[(0, &OVER_A_BOUNDARY)],
         "guest 0 console 4\nAAAA\nend halted\n",
-    )?;
-    Ok(())
+    );
 }
 
 /// Pages 5, 6 and 7 begin with f, g and h. Entries 3 and 9 both map 00400000, to page 5 and to page 6; its letter is printed. Then entry 1
@@ -263,13 +260,12 @@ const TWO_MATCH: [u32; 36] = [
 ];
 
 #[test]
-fn the_lowest_entry_that_matches_counts_once_it_is_written(rt: HostRuntime) -> Result<(), Fail> {
+fn the_lowest_entry_that_matches_counts_once_it_is_written(rt: HostRuntime) {
     try_parts(
         &rt,
         rt.alloc(),
         "two entries for one page, and then a third",
         &[(0, &TWO_MATCH)],
         "guest 0 console 2\nfh\nend halted\n",
-    )?;
-    Ok(())
+    );
 }

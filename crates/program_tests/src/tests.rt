@@ -1,6 +1,6 @@
 //! Raw programs, words and files that are refused, and outputs that fail.
 use crate::rows::{Row, halts, try_row};
-use std::test::Fail;
+use crate::telling::must;
 
 /// Refused words.
 fn refused<'a>(about: &'a str, words: &'a [&'a str]) -> Row<'a> {
@@ -15,9 +15,9 @@ fn refused<'a>(about: &'a str, words: &'a [&'a str]) -> Row<'a> {
 }
 
 #[test]
-fn runs_end_as_they_should(rt: HostRuntime) -> Result<(), Fail> {
+fn runs_end_as_they_should(rt: HostRuntime) {
     let alloc = rt.alloc();
-    try_row(&rt, alloc, &halts())?;
+    try_row(&rt, alloc, &halts());
     try_row(
         &rt,
         alloc,
@@ -27,7 +27,7 @@ fn runs_end_as_they_should(rt: HostRuntime) -> Result<(), Fail> {
             output: "guest 0 console 1\nA\nend budget\n",
             ..halts()
         },
-    )?;
+    );
     try_row(
         &rt,
         alloc,
@@ -37,7 +37,7 @@ fn runs_end_as_they_should(rt: HostRuntime) -> Result<(), Fail> {
             output: "guest 0 console 0\n\nend budget\n",
             ..halts()
         },
-    )?;
+    );
     try_row(
         &rt,
         alloc,
@@ -46,14 +46,13 @@ fn runs_end_as_they_should(rt: HostRuntime) -> Result<(), Fail> {
             words: &["--raw", "a.raw", "--steps", "0000000005"],
             ..halts()
         },
-    )?;
-    Ok(())
+    );
 }
 
 #[test]
-fn words_are_refused(rt: HostRuntime) -> Result<(), Fail> {
+fn words_are_refused(rt: HostRuntime) {
     let alloc = rt.alloc();
-    try_row(&rt, alloc, &refused("no file word", &["--steps", "5"]))?;
+    try_row(&rt, alloc, &refused("no file word", &["--steps", "5"]));
     try_row(
         &rt,
         alloc,
@@ -61,7 +60,7 @@ fn words_are_refused(rt: HostRuntime) -> Result<(), Fail> {
             "one step too many",
             &["--raw", "a.raw", "--steps", "16000001"],
         ),
-    )?;
+    );
     try_row(
         &rt,
         alloc,
@@ -69,18 +68,17 @@ fn words_are_refused(rt: HostRuntime) -> Result<(), Fail> {
             "eleven digits",
             &["--raw", "a.raw", "--steps", "00000000005"],
         ),
-    )?;
+    );
     try_row(
         &rt,
         alloc,
         &refused("a sign", &["--raw", "a.raw", "--steps", "+5"]),
-    )?;
-    try_row(&rt, alloc, &refused("no words", &[]))?;
-    Ok(())
+    );
+    try_row(&rt, alloc, &refused("no words", &[]));
 }
 
 #[test]
-fn files_are_refused(rt: HostRuntime) -> Result<(), Fail> {
+fn files_are_refused(rt: HostRuntime) {
     let alloc = rt.alloc();
     try_row(
         &rt,
@@ -93,8 +91,8 @@ fn files_are_refused(rt: HostRuntime) -> Result<(), Fail> {
             guests: 0,
             ..halts()
         },
-    )?;
-    let zeros = vec![in alloc; 0u8; 65_540]?;
+    );
+    let zeros = must(&rt, vec![in alloc; 0u8; 65_540]);
     try_row(
         &rt,
         alloc,
@@ -106,7 +104,7 @@ fn files_are_refused(rt: HostRuntime) -> Result<(), Fail> {
             guests: 0,
             ..halts()
         },
-    )?;
+    );
     try_row(
         &rt,
         alloc,
@@ -118,7 +116,7 @@ fn files_are_refused(rt: HostRuntime) -> Result<(), Fail> {
             guests: 0,
             ..halts()
         },
-    )?;
+    );
     try_row(
         &rt,
         alloc,
@@ -130,8 +128,8 @@ fn files_are_refused(rt: HostRuntime) -> Result<(), Fail> {
             guests: 0,
             ..halts()
         },
-    )?;
-    let long = vec![in alloc; 0u8; 16_777_217]?;
+    );
+    let long = must(&rt, vec![in alloc; 0u8; 16_777_217]);
     try_row(
         &rt,
         alloc,
@@ -143,12 +141,11 @@ fn files_are_refused(rt: HostRuntime) -> Result<(), Fail> {
             guests: 0,
             ..halts()
         },
-    )?;
-    Ok(())
+    );
 }
 
 #[test]
-fn outputs_that_fail(rt: HostRuntime) -> Result<(), Fail> {
+fn outputs_that_fail(rt: HostRuntime) {
     let alloc = rt.alloc();
     try_row(
         &rt,
@@ -160,7 +157,7 @@ fn outputs_that_fail(rt: HostRuntime) -> Result<(), Fail> {
             output: "",
             ..halts()
         },
-    )?;
+    );
     try_row(
         &rt,
         alloc,
@@ -171,7 +168,7 @@ fn outputs_that_fail(rt: HostRuntime) -> Result<(), Fail> {
             output: "guest 0 console 1\n",
             ..halts()
         },
-    )?;
+    );
     try_row(
         &rt,
         alloc,
@@ -181,7 +178,7 @@ fn outputs_that_fail(rt: HostRuntime) -> Result<(), Fail> {
             status: 4,
             ..halts()
         },
-    )?;
+    );
     try_row(
         &rt,
         alloc,
@@ -194,6 +191,5 @@ fn outputs_that_fail(rt: HostRuntime) -> Result<(), Fail> {
             guests: 0,
             ..halts()
         },
-    )?;
-    Ok(())
+    );
 }

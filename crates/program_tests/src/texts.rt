@@ -1,10 +1,10 @@
 //! Texts that are assembled, and printed or run. The words are those of the manual's opcode maps, the image's bytes those of the ELF
 //! specification.
 use crate::rows::{Row, halts, try_row};
+use crate::telling::must;
 use std::alloc::Global;
 use std::process::Abort;
 use std::sync::Wait;
-use std::test::Fail;
 use std::thread::Threads;
 
 /// Prints A and halts: the program of the raw tests.
@@ -54,27 +54,21 @@ fn run<'a>(about: &'a str, file: &'a [u8], output: &'a str) -> Row<'a> {
 }
 
 /// A text of which a line is refused, whether it is to be printed or run.
-fn try_refused<R: Abort + Threads + Wait + Sync>(
-    rt: &R,
-    alloc: Global,
-    file: &[u8],
-    output: &str,
-) -> Result<(), Fail> {
+fn try_refused<R: Abort + Threads + Wait + Sync>(rt: &R, alloc: Global, file: &[u8], output: &str) {
     let row = Row {
         status: 9,
         ..printed("a line that is refused", file, output)
     };
-    try_row(rt, alloc, &row)?;
+    try_row(rt, alloc, &row);
     let row = Row {
         words: &["--steps", "5", "--asm=a.s"],
         ..row
     };
-    try_row(rt, alloc, &row)?;
-    Ok(())
+    try_row(rt, alloc, &row);
 }
 
 #[test]
-fn texts_are_printed_or_run(rt: HostRuntime) -> Result<(), Fail> {
+fn texts_are_printed_or_run(rt: HostRuntime) {
     let rows = [
         Row {
             words: &["--asm", "a.s", "--steps", "5"],
@@ -104,13 +98,12 @@ fn texts_are_printed_or_run(rt: HostRuntime) -> Result<(), Fail> {
         ),
     ];
     for row in &rows {
-        try_row(&rt, rt.alloc(), row)?;
+        try_row(&rt, rt.alloc(), row);
     }
-    Ok(())
 }
 
 #[test]
-fn lines_are_refused(rt: HostRuntime) -> Result<(), Fail> {
+fn lines_are_refused(rt: HostRuntime) {
     let rows: [(&[u8], &str); 9] = [
         (
             b"start: lui $1, 0xCFFF\nori $1, $1, 0xF000\naddiu $2, $0, 40000\nsw $2, 0($1)\nsw $2, 4($1)\n",
@@ -126,17 +119,16 @@ fn lines_are_refused(rt: HostRuntime) -> Result<(), Fail> {
         (b"j 0\naddu $1, $2\nmove $1", "fault asm 1 range\n"),
     ];
     for (text, output) in &rows {
-        try_refused(&rt, rt.alloc(), *text, *output)?;
+        try_refused(&rt, rt.alloc(), *text, *output);
     }
-    Ok(())
 }
 
 #[test]
-fn texts_that_are_not_read(rt: HostRuntime) -> Result<(), Fail> {
+fn texts_that_are_not_read(rt: HostRuntime) {
     let alloc = rt.alloc();
-    let mut text = vec![in alloc; b'#'; 1_048_576]?;
-    try_row(&rt, alloc, &printed("the longest text", &text, NO_WORDS))?;
-    text.push(b'#')?;
+    let mut text = must(&rt, vec![in alloc; b'#'; 1_048_576]);
+    try_row(&rt, alloc, &printed("the longest text", &text, NO_WORDS));
+    must(&rt, text.push(b'#'));
     let rows = [
         Row {
             status: 8,
@@ -159,13 +151,12 @@ fn texts_that_are_not_read(rt: HostRuntime) -> Result<(), Fail> {
         },
     ];
     for row in &rows {
-        try_row(&rt, alloc, row)?;
+        try_row(&rt, alloc, row);
     }
-    Ok(())
 }
 
 #[test]
-fn words_about_texts_are_refused(rt: HostRuntime) -> Result<(), Fail> {
+fn words_about_texts_are_refused(rt: HostRuntime) {
     let rows: [&[&str]; 5] = [
         &["--asm", "a.s", "--steps", "5", "--steps", "5"],
         &["--asm", "a.s", "--machine", "a.s"],
@@ -179,13 +170,12 @@ fn words_about_texts_are_refused(rt: HostRuntime) -> Result<(), Fail> {
             words: *words,
             ..printed("words", PRINTS_A, "fault words\n")
         };
-        try_row(&rt, rt.alloc(), &row)?;
+        try_row(&rt, rt.alloc(), &row);
     }
-    Ok(())
 }
 
 #[test]
-fn listings_that_fail(rt: HostRuntime) -> Result<(), Fail> {
+fn listings_that_fail(rt: HostRuntime) {
     let rows = [
         Row {
             status: 4,
@@ -204,7 +194,6 @@ fn listings_that_fail(rt: HostRuntime) -> Result<(), Fail> {
         },
     ];
     for row in &rows {
-        try_row(&rt, rt.alloc(), row)?;
+        try_row(&rt, rt.alloc(), row);
     }
-    Ok(())
 }

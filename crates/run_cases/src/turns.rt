@@ -1,13 +1,9 @@
 //! Guests of one image on several processors, under gates that see and delay turns.
 use crate::files::{held, words_of};
 use base_words::Bytes;
-use guest_core::RunRecord;
-use monitor_run::disco;
 use outside_io::{CallList, FileList, Gate, GatePoint, MemShelf, MemSink};
 use std::alloc::{AllocError, Global};
-use std::sync::Wait;
 use std::sync::atomic::{AtomicU64, Ordering};
-use std::thread::Threads;
 
 /// Two virtual processors each add 1 a thousand times to the word at C0001000, by LL and SC. The last one to finish prints Y where
 /// the word is 2000 then, and else N. Both halt.
@@ -120,41 +116,25 @@ pub fn crowd(
     Ok(text)
 }
 
-/// Runs a description whose guests all have this image and may have this disk, and gives the record. An error is want of memory, or
-/// another status than 0.
-pub fn record_with_disk<R: Threads + Wait + Sync, G: Gate>(
-    rt: &R,
-    alloc: Global,
-    text: &str,
-    image: Bytes,
-    disk: Bytes,
-    gate: &G,
-) -> Result<RunRecord, AllocError> {
+/// A call of a description: its words, its files and its output.
+#[derive(Drop)]
+pub struct Call {
+    pub words: Vec<String>,
+    pub shelf: MemShelf,
+    pub sink: MemSink,
+}
+
+/// The call of a description whose guests all have this image and may have this disk.
+pub fn call_of(alloc: Global, text: &str, image: Bytes, disk: Bytes) -> Result<Call, AllocError> {
     let mut files = FileList::new(alloc);
     files.push(held(alloc, "m", text.as_bytes().to_vec(alloc)?)?)?;
     files.push(held(alloc, "a.raw", image.into_vec())?)?;
     files.push(held(alloc, "d.img", disk.into_vec())?)?;
-    let mut shelf = MemShelf::new(alloc, files, CallList::new(alloc));
-    let mut sink = MemSink::new(alloc, CallList::new(alloc));
-    let words = words_of(alloc, &["--machine", "m"])?;
-    let mut out = RunRecord::empty(alloc);
-    let status = disco(rt, alloc, &words, &mut shelf, &mut sink, gate, &mut out);
-    if status != 0 {
-        return Err(AllocError);
-    }
-    Ok(out)
-}
-
-/// Runs a description whose guests all have this image, and gives the record. An error is want of memory, or another status than 0.
-pub fn record_of<R: Threads + Wait + Sync, G: Gate>(
-    rt: &R,
-    alloc: Global,
-    text: &str,
-    image: Bytes,
-    gate: &G,
-) -> Result<RunRecord, AllocError> {
-    let no_disk = Bytes::from_vec(Vec::new(alloc));
-    record_with_disk(rt, alloc, text, image, no_disk, gate)
+    Ok(Call {
+        words: words_of(alloc, &["--machine", "m"])?,
+        shelf: MemShelf::new(alloc, files, CallList::new(alloc)),
+        sink: MemSink::new(alloc, CallList::new(alloc)),
+    })
 }
 
 /// Delays turns, each by another measure, which is made of the schedule's number, the processor and the turn.

@@ -11,14 +11,14 @@ use crate::sharing_examples::{
     CHANGES_THE_BLOCK, PRINTS_THE_PAGE, READS_THE_BLOCK, SENDS_THE_PAGE, SHARED_DISK_DESCRIPTION,
     WHOLE_PACKETS_DESCRIPTION,
 };
+use crate::telling::{must, same};
 use guest_core::RunRecord;
 use monitor_run::disco;
 use outside_io::{CallList, FileList, FreeGate, MemShelf, MemSink};
 use run_cases::{Part, file_of_parts, held, words_of};
-use std::alloc::{AllocError, Global};
+use std::alloc::Global;
 use std::process::Abort;
 use std::sync::Wait;
-use std::test::Fail;
 use std::thread::Threads;
 
 /// The name of an image, and its parts.
@@ -46,29 +46,38 @@ fn headers(count: u32) -> [u32; 21] {
 }
 
 /// The image of an example's words, which are no more than 16 pages.
-fn image_of(alloc: Global, parts: &[Part]) -> Result<Vec<u8>, AllocError> {
-    let words = file_of_parts(alloc, parts)?;
+fn image_of(rt: &impl Abort, alloc: Global, parts: &[Part]) -> Vec<u8> {
+    let words = must(rt, file_of_parts(alloc, parts));
     let count = words.len().min(0x1_0000) as u32;
-    let mut image = file_of_parts(alloc, &[(0, &headers(count))])?;
-    image.extend_from_slice(&words)?;
-    Ok(image)
+    let mut image = must(rt, file_of_parts(alloc, &[(0, &headers(count))]));
+    must(rt, image.extend_from_slice(&words));
+    image
 }
 
 /// The names of the examples' disks.
 const DISKS: [&str; 2] = ["examples/disk/disk.img", "examples/shared_disk/disk.img"];
 
 /// A shelf with the files of an example.
-fn shelf_of(alloc: Global, example: &Example) -> Result<MemShelf, AllocError> {
+fn shelf_of(rt: &impl Abort, alloc: Global, example: &Example) -> MemShelf {
     let mut files = FileList::new(alloc);
-    let description = example.description.as_bytes().to_vec(alloc)?;
-    files.push(held(alloc, "machine.toml", description)?)?;
+    let description = must(rt, example.description.as_bytes().to_vec(alloc));
+    must(
+        rt,
+        files.push(must(rt, held(alloc, "machine.toml", description))),
+    );
     for (name, parts) in example.images {
-        files.push(held(alloc, *name, image_of(alloc, *parts)?)?)?;
+        must(
+            rt,
+            files.push(must(rt, held(alloc, *name, image_of(rt, alloc, *parts)))),
+        );
     }
     for name in DISKS {
-        files.push(held(alloc, name, example.disk.to_vec(alloc)?)?)?;
+        must(
+            rt,
+            files.push(must(rt, held(alloc, name, must(rt, example.disk.to_vec(alloc))))),
+        );
     }
-    Ok(MemShelf::new(alloc, files, CallList::from_vec(Vec::new(alloc))))
+    MemShelf::new(alloc, files, CallList::from_vec(Vec::new(alloc)))
 }
 
 /// Runs an example by an option, and compares the status and what is printed.
@@ -78,38 +87,34 @@ fn try_example<R: Abort + Threads + Wait + Sync>(
     example: &Example,
     option: &str,
     wanted: (u8, &str),
-) -> Result<(), AllocError> {
-    let mut shelf = shelf_of(alloc, example)?;
+) {
+    let mut shelf = shelf_of(rt, alloc, example);
     let mut sink = MemSink::new(alloc, CallList::from_vec(Vec::new(alloc)));
-    let words = words_of(alloc, &[option, "machine.toml"])?;
+    let words = must(rt, words_of(alloc, &[option, "machine.toml"]));
     let mut out = RunRecord::empty(alloc);
     let status = disco(
         rt, alloc, &words, &mut shelf, &mut sink, &FreeGate, &mut out,
     );
     let about = example.about;
     let (wanted_status, output) = wanted;
-    assert_eq!(rt; status, wanted_status, "status of {about} by {option}");
-    assert_eq!(rt;
+    same(rt, status, wanted_status, ("status", about, option));
+    same(
+        rt,
         sink.bytes(),
         output.as_bytes(),
-        "output of {about} by {option}"
+        ("output", about, option),
     );
-    Ok(())
 }
 
 /// Runs an example under the monitor, and its guests alone.
-fn try_both<R: Abort + Threads + Wait + Sync>(
-    rt: &R,
-    alloc: Global,
-    example: &Example,
-) -> Result<(), AllocError> {
+fn try_both<R: Abort + Threads + Wait + Sync>(rt: &R, alloc: Global, example: &Example) {
     let monitored = (example.status, example.monitored);
-    try_example(rt, alloc, example, "--machine", monitored)?;
+    try_example(rt, alloc, example, "--machine", monitored);
     try_example(rt, alloc, example, "--private", (0, example.alone))
 }
 
 #[test]
-fn examples_print_what_they_should(rt: HostRuntime) -> Result<(), Fail> {
+fn examples_print_what_they_should(rt: HostRuntime) {
     let examples = [
         Example {
             about: "hello",
@@ -211,14 +216,13 @@ fn examples_print_what_they_should(rt: HostRuntime) -> Result<(), Fail> {
     let alloc = rt.alloc();
     for example in &examples {
         let monitored = (example.status, example.monitored);
-        try_example(&rt, alloc, example, "--machine", monitored)?;
-        try_example(&rt, alloc, example, "--private", (0, example.alone))?;
+        try_example(&rt, alloc, example, "--machine", monitored);
+        try_example(&rt, alloc, example, "--private", (0, example.alone));
     }
-    Ok(())
 }
 
 #[test]
-fn examples_that_share_print_what_they_should(rt: HostRuntime) -> Result<(), Fail> {
+fn examples_that_share_print_what_they_should(rt: HostRuntime) {
     let examples = [
         Example {
             about: "shared_disk",
@@ -247,7 +251,6 @@ fn examples_that_share_print_what_they_should(rt: HostRuntime) -> Result<(), Fai
     ];
     let alloc = rt.alloc();
     for example in &examples {
-        try_both(&rt, alloc, example)?;
+        try_both(&rt, alloc, example);
     }
-    Ok(())
 }

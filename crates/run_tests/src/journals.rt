@@ -1,19 +1,20 @@
 //! The journals of whole runs, entry by entry.
+use crate::record::record_of;
+use crate::telling::must;
 use base_words::{Bytes, End, Event, ProcId, VcpuId};
 use outside_io::FreeGate;
-use run_cases::{PRINTS_A, crowd, have_entries, record_of};
-use std::test::Fail;
+use run_cases::{PRINTS_A, crowd, have_entries};
 
 /// J to itself, and its delay slot.
 const LOOPS: [u8; 8] = [0x08, 0x00, 0x00, 0x00, 0x24, 0x00, 0x00, 0x00];
 
 #[test]
-fn the_record_has_the_journal(rt: HostRuntime) -> Result<(), Fail> {
+fn the_record_has_the_journal(rt: HostRuntime) {
     let alloc = rt.alloc();
     let (processor, vcpu) = (ProcId(0), VcpuId(0));
-    let text = crowd(alloc, 1, 1, 1, 16, 5)?;
-    let image = Bytes::from_vec(PRINTS_A.to_vec(alloc)?);
-    let out = record_of(&rt, alloc, text.as_str(), image, &FreeGate)?;
+    let text = must(&rt, crowd(alloc, 1, 1, 1, 16, 5));
+    let image = Bytes::from_vec(must(&rt, PRINTS_A.to_vec(alloc)));
+    let out = record_of(&rt, alloc, text.as_str(), image, &FreeGate);
     let expected = [
         (Event::Load(processor, vcpu), 1),
         (Event::Refill(processor), 1),
@@ -23,16 +24,15 @@ fn the_record_has_the_journal(rt: HostRuntime) -> Result<(), Fail> {
         (Event::Unload(processor), 1),
     ];
     assert!(&rt; have_entries(&out, &expected), "its entries");
-    Ok(())
 }
 
 #[test]
-fn two_million_steps_are_five_runs(rt: HostRuntime) -> Result<(), Fail> {
+fn two_million_steps_are_five_runs(rt: HostRuntime) {
     let alloc = rt.alloc();
     let (processor, vcpu) = (ProcId(0), VcpuId(0));
-    let text = crowd(alloc, 1, 1, 1, 16, 2_000_000)?;
-    let image = Bytes::from_vec(LOOPS.to_vec(alloc)?);
-    let out = record_of(&rt, alloc, text.as_str(), image, &FreeGate)?;
+    let text = must(&rt, crowd(alloc, 1, 1, 1, 16, 2_000_000));
+    let image = Bytes::from_vec(must(&rt, LOOPS.to_vec(alloc)));
+    let out = record_of(&rt, alloc, text.as_str(), image, &FreeGate);
     let expected = [
         (Event::Load(processor, vcpu), 1),
         (Event::Refill(processor), 1),
@@ -44,12 +44,10 @@ fn two_million_steps_are_five_runs(rt: HostRuntime) -> Result<(), Fail> {
     let [guest] = out.guests.as_slice() else {
         panic!(&rt; "there is one guest");
     };
-    assert_eq!(&rt; guest.journal.len(), 2_000_004, "entries");
-    assert_eq!(&rt; guest.journal.runs(), 5, "runs");
-    assert_eq!(&rt;
-        guest.console.as_slice(),
-        b"".as_slice(),
+    assert!(&rt; guest.journal.len() == 2_000_004, "entries");
+    assert!(&rt; guest.journal.runs() == 5, "runs");
+    assert!(&rt;
+        guest.console.as_slice() == b"".as_slice(),
         "it prints nothing"
     );
-    Ok(())
 }

@@ -14,4 +14,8 @@ mod litmus_files;
 #[cfg(test)]
 mod parallel;
 #[cfg(test)]
+mod record;
+#[cfg(test)]
 mod sharing_examples;
+#[cfg(test)]
+mod telling;

@@ -1,14 +1,14 @@
 //! Litmus files, with what is printed for them. The expected texts are worked out by hand.
+use crate::telling::{must, same};
 use base_words::{Bytes, Name, ProcId};
 use guest_core::RunRecord;
 use monitor_run::disco;
 use outside_io::{CallList, FileList, FreeGate, Gate, GatePoint, HeldFile, MemShelf, MemSink};
 use run_cases::words_of;
-use std::alloc::{AllocError, Global};
+use std::alloc::Global;
 use std::process::Abort;
 use std::sync::Wait;
 use std::sync::atomic::{AtomicU64, Ordering};
-use std::test::Fail;
 use std::thread::Threads;
 
 /// A litmus file, the calls that fail, and what has to come of it.
@@ -48,35 +48,36 @@ fn try_under<R: Abort + Threads + Wait + Sync, G: Gate>(
     alloc: Global,
     row: &Row,
     gate: &G,
-) -> Result<(), AllocError> {
+) {
     let mut files = FileList::new(alloc);
-    files.push(HeldFile {
-        name: Name::copy_of(alloc, "l")?,
-        bytes: Bytes::from_vec(row.text.to_vec(alloc)?),
-    })?;
-    let fails = CallList::from_vec(row.shelf_fails.to_vec(alloc)?);
+    must(
+        rt,
+        files.push(HeldFile {
+            name: must(rt, Name::copy_of(alloc, "l")),
+            bytes: Bytes::from_vec(must(rt, row.text.to_vec(alloc))),
+        }),
+    );
+    let fails = CallList::from_vec(must(rt, row.shelf_fails.to_vec(alloc)));
     let mut shelf = MemShelf::new(alloc, files, fails);
-    let mut sink = MemSink::new(alloc, CallList::from_vec(row.sink_fails.to_vec(alloc)?));
-    let words = words_of(alloc, &["--litmus", "l"])?;
+    let mut sink = MemSink::new(
+        alloc,
+        CallList::from_vec(must(rt, row.sink_fails.to_vec(alloc))),
+    );
+    let words = must(rt, words_of(alloc, &["--litmus", "l"]));
     let mut out = RunRecord::empty(alloc);
     let status = disco(rt, alloc, &words, &mut shelf, &mut sink, gate, &mut out);
     let output = row.output;
-    assert_eq!(rt; status, row.status, "status of {output}");
-    assert_eq!(rt; sink.bytes(), output.as_bytes());
+    same(rt, status, row.status, ("status of", output));
+    assert!(rt; sink.bytes() == output.as_bytes());
     assert!(rt; out.guests.is_empty() && out.slices.is_empty() && out.failures.is_empty());
-    Ok(())
 }
 
-fn try_row<R: Abort + Threads + Wait + Sync>(
-    rt: &R,
-    alloc: Global,
-    row: &Row,
-) -> Result<(), AllocError> {
+fn try_row<R: Abort + Threads + Wait + Sync>(rt: &R, alloc: Global, row: &Row) {
     try_under(rt, alloc, row, &FreeGate)
 }
 
 #[test]
-fn litmus_files_are_carried_out_or_refused(rt: HostRuntime) -> Result<(), Fail> {
+fn litmus_files_are_carried_out_or_refused(rt: HostRuntime) {
     let rows = [
         carried_out(),
         refused(),
@@ -109,37 +110,35 @@ fn litmus_files_are_carried_out_or_refused(rt: HostRuntime) -> Result<(), Fail> 
         },
     ];
     for row in &rows {
-        try_row(&rt, rt.alloc(), row)?;
+        try_row(&rt, rt.alloc(), row);
     }
-    Ok(())
 }
 
 /// A file of one caller without accesses, with a comment up to so many bytes.
-fn file_of(alloc: Global, bytes: usize) -> Result<Vec<u8>, AllocError> {
-    let mut text = b"pages = 1\n[[caller]]\nops = []\n#".to_vec(alloc)?;
-    text.resize(bytes, b'#')?;
-    Ok(text)
+fn file_of(rt: &impl Abort, alloc: Global, bytes: usize) -> Vec<u8> {
+    let mut text = must(rt, b"pages = 1\n[[caller]]\nops = []\n#".to_vec(alloc));
+    must(rt, text.resize(bytes, b'#'));
+    text
 }
 
 #[test]
-fn the_longest_litmus_file(rt: HostRuntime) -> Result<(), Fail> {
+fn the_longest_litmus_file(rt: HostRuntime) {
     let alloc = rt.alloc();
-    let longest = file_of(alloc, 1_048_576)?;
+    let longest = file_of(&rt, alloc, 1_048_576);
     let taken = Row {
         text: longest.as_slice(),
         output: "page 0 0\n",
         ..carried_out()
     };
-    try_row(&rt, alloc, &taken)?;
-    let longer = file_of(alloc, 1_048_577)?;
+    try_row(&rt, alloc, &taken);
+    let longer = file_of(&rt, alloc, 1_048_577);
     let long = Row {
         text: longer.as_slice(),
         status: 8,
         output: "fault long l\n",
         ..carried_out()
     };
-    try_row(&rt, alloc, &long)?;
-    Ok(())
+    try_row(&rt, alloc, &long);
 }
 
 /// How often the gate looks at most, before it lets the access pass all the same.
@@ -172,7 +171,7 @@ impl Gate for Holding {
 }
 
 #[test]
-fn two_pages_are_held_at_once(rt: HostRuntime) -> Result<(), Fail> {
+fn two_pages_are_held_at_once(rt: HostRuntime) {
     let row = Row {
         text: b"pages = 2\n[[caller]]\nops = [[0, 0, 1]]\n[[caller]]\nops = [[1, 0, 2]]\n",
         output: "page 0 1\n0 s 0 1\npage 1 1\n1 s 0 2\n",
@@ -182,7 +181,6 @@ fn two_pages_are_held_at_once(rt: HostRuntime) -> Result<(), Fail> {
         seen: AtomicU64::new(0),
         held: AtomicU64::new(0),
     };
-    try_under(&rt, rt.alloc(), &row, &gate)?;
-    assert_eq!(rt; gate.held.load(Ordering::SeqCst), 1, "the gate saw it");
-    Ok(())
+    try_under(&rt, rt.alloc(), &row, &gate);
+    assert!(rt; gate.held.load(Ordering::SeqCst) == 1, "the gate saw it");
 }

@@ -1,12 +1,13 @@
 //! Guests on several processors at once, under gates that see and delay turns.
+use crate::record::record_of;
+use crate::telling::{must, same};
 use base_words::{Bytes, End, GuestId, ProcId};
 use outside_io::{FreeGate, Gate, GatePoint};
-use run_cases::{Delaying, PRINTS_A, counts, crowd, record_of};
-use std::alloc::{AllocError, Global};
+use run_cases::{Delaying, PRINTS_A, counts, crowd};
+use std::alloc::Global;
 use std::process::Abort;
 use std::sync::Wait;
 use std::sync::atomic::{AtomicU64, Ordering};
-use std::test::Fail;
 use std::thread::Threads;
 
 /// Runs a description of so many guests with this image, and compares what each of them printed.
@@ -18,18 +19,18 @@ fn try_run<R: Abort + Threads + Wait + Sync, G: Gate>(
     gate: &G,
     guests: usize,
     console: &str,
-) -> Result<(), AllocError> {
-    let out = record_of(rt, alloc, text, image, gate)?;
-    assert_eq!(rt; out.guests.len(), guests, "guests of {text}");
+) {
+    let out = record_of(rt, alloc, text, image, gate);
+    same(rt, out.guests.len(), guests, ("guests of", text));
     for guest in out.guests.as_slice() {
-        assert_eq!(rt;
+        same(
+            rt,
             guest.console.as_slice(),
             console.as_bytes(),
-            "console under {text}"
+            ("console under", text),
         );
-        assert_eq!(rt; guest.end, End::Halted, "end under {text}");
+        same(rt, guest.end, End::Halted, ("end under", text));
     }
-    Ok(())
 }
 
 /// Counts the turns that pass it.
@@ -79,68 +80,71 @@ impl Gate for Meeting {
 }
 
 #[test]
-fn each_turn_passes_the_gate(rt: HostRuntime) -> Result<(), Fail> {
+fn each_turn_passes_the_gate(rt: HostRuntime) {
     let alloc = rt.alloc();
-    let text = crowd(alloc, 1, 1, 1, 16, 5)?;
+    let text = must(&rt, crowd(alloc, 1, 1, 1, 16, 5));
     let gate = Counting {
         turns: AtomicU64::new(0),
     };
-    let image = Bytes::from_vec(PRINTS_A.to_vec(alloc)?);
-    try_run(&rt, alloc, text.as_str(), image, &gate, 1, "A")?;
-    assert_eq!(&rt;
-        gate.turns.load(Ordering::Relaxed),
-        6,
+    let image = Bytes::from_vec(must(&rt, PRINTS_A.to_vec(alloc)));
+    try_run(&rt, alloc, text.as_str(), image, &gate, 1, "A");
+    assert!(&rt;
+        gate.turns.load(Ordering::Relaxed) == 6,
         "five steps and a refill"
     );
-    Ok(())
 }
 
 #[test]
-fn workers_run_at_once(rt: HostRuntime) -> Result<(), Fail> {
+fn workers_run_at_once(rt: HostRuntime) {
     let alloc = rt.alloc();
-    let text = crowd(alloc, 2, 1, 2, 1, 5)?;
+    let text = must(&rt, crowd(alloc, 2, 1, 2, 1, 5));
     let gate = Meeting {
         had: AtomicU64::new(0),
         met: AtomicU64::new(0),
     };
-    let image = Bytes::from_vec(PRINTS_A.to_vec(alloc)?);
-    try_run(&rt, alloc, text.as_str(), image, &gate, 2, "A")?;
-    assert_eq!(&rt; gate.met.load(Ordering::Acquire), 1, "both had a turn");
-    Ok(())
+    let image = Bytes::from_vec(must(&rt, PRINTS_A.to_vec(alloc)));
+    try_run(&rt, alloc, text.as_str(), image, &gate, 2, "A");
+    assert!(&rt; gate.met.load(Ordering::Acquire) == 1, "both had a turn");
 }
 
 #[test]
-fn virtual_processors_count_together(rt: HostRuntime) -> Result<(), Fail> {
+fn virtual_processors_count_together(rt: HostRuntime) {
     let alloc = rt.alloc();
-    let text = crowd(alloc, 1, 2, 2, 4, 100_000)?;
+    let text = must(&rt, crowd(alloc, 1, 2, 2, 4, 100_000));
     try_run(
         &rt,
         alloc,
         text.as_str(),
-        counts(alloc, 2)?,
+        must(&rt, counts(alloc, 2)),
         &FreeGate,
         1,
         "Y",
-    )?;
+    );
     for schedule in 0..20 {
         let gate = Delaying::new(schedule);
-        try_run(&rt, alloc, text.as_str(), counts(alloc, 2)?, &gate, 1, "Y")?;
+        try_run(
+            &rt,
+            alloc,
+            text.as_str(),
+            must(&rt, counts(alloc, 2)),
+            &gate,
+            1,
+            "Y",
+        );
     }
-    Ok(())
 }
 
 #[test]
-fn many_guests_run_at_once(rt: HostRuntime) -> Result<(), Fail> {
+fn many_guests_run_at_once(rt: HostRuntime) {
     let alloc = rt.alloc();
-    let text = crowd(alloc, 8, 4, 16, 2, 300_000)?;
+    let text = must(&rt, crowd(alloc, 8, 4, 16, 2, 300_000));
     try_run(
         &rt,
         alloc,
         text.as_str(),
-        counts(alloc, 4)?,
+        must(&rt, counts(alloc, 4)),
         &FreeGate,
         8,
         "Y",
-    )?;
-    Ok(())
+    );
 }

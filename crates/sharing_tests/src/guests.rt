@@ -1,9 +1,10 @@
 //! Raw guests of four pages on one machine, with a program each: their description, their files and their report.
+use crate::telling::{must, same};
 use guest_core::RunRecord;
 use monitor_run::disco;
 use outside_io::{CallList, FileList, FreeGate, MemShelf, MemSink};
 use run_cases::{Part, file_of_parts, held, words_of};
-use std::alloc::{AllocError, Global};
+use std::alloc::Global;
 use std::process::Abort;
 use std::sync::Wait;
 use std::thread::Threads;
@@ -49,32 +50,49 @@ pub(crate) struct Case<'a> {
 }
 
 /// The description of a case.
-fn description_of(alloc: Global, case: &Case) -> Result<String, AllocError> {
+fn description_of(rt: &impl Abort, alloc: Global, case: &Case) -> String {
     let machine = case.machine;
-    let mut text = format!(in alloc; "[machine]\n{machine}")?;
+    let mut text = must(rt, format!(in alloc; "[machine]\n{machine}"));
     for (number, guest) in case.guests.iter().enumerate() {
         let Guest { node, disk, .. } = *guest;
-        text.push_str(format!(in alloc;
-            "[[guest]]\nimage = \"{number}\"\nform = \"raw\"\npages = 4\nvcpus = 1\nnode = {node}\n{disk}"
-        )?.as_str())?;
+        must(
+            rt,
+            text.push_str(must(
+                rt,
+                format!(in alloc;
+                    "[[guest]]\nimage = \"{number}\"\nform = \"raw\"\npages = 4\nvcpus = 1\nnode = {node}\n{disk}"
+                ),
+            )
+            .as_str()),
+        );
     }
     for (guest, steps) in case.runs {
-        text.push_str(format!(in alloc;
-            "[[work]]\nact = \"run\"\nprocessor = 0\nguest = {guest}\nvcpu = 0\nsteps = {steps}\n"
-        )?.as_str())?;
+        must(
+            rt,
+            text.push_str(must(
+                rt,
+                format!(in alloc;
+                    "[[work]]\nact = \"run\"\nprocessor = 0\nguest = {guest}\nvcpu = 0\nsteps = {steps}\n"
+                ),
+            )
+            .as_str()),
+        );
     }
-    Ok(text)
+    text
 }
 
 /// A guest's lines without its sums.
-fn alone_of(alloc: Global, number: usize, guest: &Guest) -> Result<String, AllocError> {
+fn alone_of(rt: &impl Abort, alloc: Global, number: usize, guest: &Guest) -> String {
     let Guest { console, end, .. } = *guest;
     let length = console.len();
-    format!(in alloc; "guest {number} console {length}\n{console}\nend {end}\n")
+    must(
+        rt,
+        format!(in alloc; "guest {number} console {length}\n{console}\nend {end}\n"),
+    )
 }
 
 /// A guest's line of sums.
-fn sums_of(alloc: Global, guest: &Guest) -> Result<String, AllocError> {
+fn sums_of(rt: &impl Abort, alloc: Global, guest: &Guest) -> String {
     let Guest {
         steps,
         refills,
@@ -83,37 +101,49 @@ fn sums_of(alloc: Global, guest: &Guest) -> Result<String, AllocError> {
         received,
         ..
     } = *guest;
-    format!(in alloc;
-        "sums steps {steps} refills {refills} moves 0 skips 0 breaks {breaks} shared {shared} received {received} discarded 0\n"
+    must(
+        rt,
+        format!(in alloc;
+            "sums steps {steps} refills {refills} moves 0 skips 0 breaks {breaks} shared {shared} received {received} discarded 0\n"
+        ),
     )
 }
 
 /// The report of a case, with the sums of a run under the monitor or without.
-fn report_of(alloc: Global, case: &Case, has_sums: bool) -> Result<String, AllocError> {
+fn report_of(rt: &impl Abort, alloc: Global, case: &Case, has_sums: bool) -> String {
     let mut text = String::new(alloc);
     for (number, guest) in case.guests.iter().enumerate() {
-        text.push_str(alone_of(alloc, number, guest)?.as_str())?;
+        must(
+            rt,
+            text.push_str(alone_of(rt, alloc, number, guest).as_str()),
+        );
         if has_sums {
-            text.push_str(sums_of(alloc, guest)?.as_str())?;
+            must(rt, text.push_str(sums_of(rt, alloc, guest).as_str()));
         }
     }
-    Ok(text)
+    text
 }
 
 /// A shelf with the description, the image of each guest, and the disks d and e.
-fn shelf_of(alloc: Global, case: &Case) -> Result<MemShelf, AllocError> {
+fn shelf_of(rt: &impl Abort, alloc: Global, case: &Case) -> MemShelf {
     let mut files = FileList::new(alloc);
-    let description = description_of(alloc, case)?.into_bytes();
-    files.push(held(alloc, "m", description)?)?;
+    let description = description_of(rt, alloc, case).into_bytes();
+    must(rt, files.push(must(rt, held(alloc, "m", description))));
     for (number, guest) in case.guests.iter().enumerate() {
-        let name = format!(in alloc; "{number}")?;
-        let image = file_of_parts(alloc, &[(0, guest.program)])?;
-        files.push(held(alloc, name.as_str(), image)?)?;
+        let name = must(rt, format!(in alloc; "{number}"));
+        let image = must(rt, file_of_parts(alloc, &[(0, guest.program)]));
+        must(rt, files.push(must(rt, held(alloc, name.as_str(), image))));
     }
     for name in ["d", "e"] {
-        files.push(held(alloc, name, file_of_parts(alloc, case.disk)?)?)?;
+        must(
+            rt,
+            files.push(must(
+                rt,
+                held(alloc, name, must(rt, file_of_parts(alloc, case.disk))),
+            )),
+        );
     }
-    Ok(MemShelf::new(alloc, files, CallList::new(alloc)))
+    MemShelf::new(alloc, files, CallList::new(alloc))
 }
 
 /// Runs a case by an option, and compares the report, which has sums or has none.
@@ -123,22 +153,22 @@ fn try_by<R: Abort + Threads + Wait + Sync>(
     case: &Case,
     option: &str,
     has_sums: bool,
-) -> Result<(), AllocError> {
-    let mut shelf = shelf_of(alloc, case)?;
+) {
+    let mut shelf = shelf_of(rt, alloc, case);
     let mut sink = MemSink::new(alloc, CallList::new(alloc));
-    let words = words_of(alloc, &[option, "m"])?;
+    let words = must(rt, words_of(alloc, &[option, "m"]));
     let mut out = RunRecord::empty(alloc);
     let status = disco(
         rt, alloc, &words, &mut shelf, &mut sink, &FreeGate, &mut out,
     );
     let about = case.about;
-    assert_eq!(rt; status, 0, "status of {about} by {option}");
-    assert_eq!(rt;
+    same(rt, status, 0, ("status", about, option));
+    same(
+        rt,
         sink.bytes(),
-        report_of(alloc, case, has_sums)?.as_bytes(),
-        "report of {about} by {option}"
+        report_of(rt, alloc, case, has_sums).as_bytes(),
+        ("report", about, option),
     );
-    Ok(())
 }
 
 /// Runs cases under the monitor.
@@ -146,22 +176,16 @@ pub(crate) fn try_monitored<R: Abort + Threads + Wait + Sync>(
     rt: &R,
     alloc: Global,
     cases: &[Case],
-) -> Result<(), AllocError> {
+) {
     for case in cases {
-        try_by(rt, alloc, case, "--machine", true)?;
+        try_by(rt, alloc, case, "--machine", true);
     }
-    Ok(())
 }
 
 /// Runs cases under the monitor, and each guest alone, which prints the same.
-pub(crate) fn try_both<R: Abort + Threads + Wait + Sync>(
-    rt: &R,
-    alloc: Global,
-    cases: &[Case],
-) -> Result<(), AllocError> {
+pub(crate) fn try_both<R: Abort + Threads + Wait + Sync>(rt: &R, alloc: Global, cases: &[Case]) {
     for case in cases {
-        try_by(rt, alloc, case, "--machine", true)?;
-        try_by(rt, alloc, case, "--private", false)?;
+        try_by(rt, alloc, case, "--machine", true);
+        try_by(rt, alloc, case, "--private", false);
     }
-    Ok(())
 }

@@ -2,7 +2,6 @@
 //! hand.
 use crate::guests::{Case, Guest, PLAIN, try_monitored};
 use crate::packets::{MACHINE, PRINTS_A_WORD, SENDS_A_PAGE};
-use std::test::Fail;
 
 /// The same as `PRINTS_A_WORD`, which waits still.
 const WAITS_FOR_A_WORD: Guest<'static> = Guest {
@@ -129,7 +128,7 @@ const READS_AND_ARMS: Guest<'static> = Guest {
 /// The page is remapped, and the sender's store breaks it after that; also once the plan is done. It is copied where the sender's store has
 /// broken it before it is taken; that store breaks it also where the receiver has ended or the wire is full.
 #[test]
-fn a_page_is_handed_on(rt: HostRuntime) -> Result<(), Fail> {
+fn a_page_is_handed_on(rt: HostRuntime) {
     let cases = [
         Case {
             about: "a page that is taken before it is written",
@@ -192,12 +191,12 @@ fn a_page_is_handed_on(rt: HostRuntime) -> Result<(), Fail> {
             runs: &[(0, 300)],
         },
     ];
-    Ok(try_monitored(&rt, rt.alloc(), &cases)?)
+    try_monitored(&rt, rt.alloc(), &cases)
 }
 
 /// A whole page is copied to a guest at home in another cell, and where no frame of the machine is free; its sender keeps it.
 #[test]
-fn a_page_is_sent_as_a_copy(rt: HostRuntime) -> Result<(), Fail> {
+fn a_page_is_sent_as_a_copy(rt: HostRuntime) {
     let cases = [
         Case {
             about: "a receiver in another cell",
@@ -220,13 +219,13 @@ fn a_page_is_sent_as_a_copy(rt: HostRuntime) -> Result<(), Fail> {
             runs: &[(1, 4), (0, 20), (1, 20)],
         },
     ];
-    Ok(try_monitored(&rt, rt.alloc(), &cases)?)
+    try_monitored(&rt, rt.alloc(), &cases)
 }
 
 /// A shared page is handed on again with no further frame: the machine has one free one, and both packets are remapped. Where the page was
 /// broken between the sends, the first packet's frame is free or another's by then, and is copied.
 #[test]
-fn a_page_is_sent_twice(rt: HostRuntime) -> Result<(), Fail> {
+fn a_page_is_sent_twice(rt: HostRuntime) {
     let cases = [
         Case {
             about: "a page that is shared already",
@@ -250,13 +249,13 @@ fn a_page_is_sent_twice(rt: HostRuntime) -> Result<(), Fail> {
             runs: &[(1, 6), (0, 14), (1, 20)],
         },
     ];
-    Ok(try_monitored(&rt, rt.alloc(), &cases)?)
+    try_monitored(&rt, rt.alloc(), &cases)
 }
 
 /// A block that the cell keeps is handed on with no further frame, also when the guest that read it has ended. A packet comes into a page
 /// that holds such a block: a whole one takes its place, and four bytes break it first.
 #[test]
-fn blocks_and_packets_share_pages(rt: HostRuntime) -> Result<(), Fail> {
+fn blocks_and_packets_share_pages(rt: HostRuntime) {
     let cases = [
         Case {
             about: "a block that is handed on",
@@ -294,5 +293,5 @@ fn blocks_and_packets_share_pages(rt: HostRuntime) -> Result<(), Fail> {
             runs: &[(1, 8), (0, 11), (1, 6)],
         },
     ];
-    Ok(try_monitored(&rt, rt.alloc(), &cases)?)
+    try_monitored(&rt, rt.alloc(), &cases)
 }

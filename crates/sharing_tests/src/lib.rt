@@ -11,3 +11,5 @@ mod packets;
 mod sharing;
 #[cfg(test)]
 mod storing_at_once;
+#[cfg(test)]
+mod telling;

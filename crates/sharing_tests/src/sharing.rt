@@ -1,7 +1,6 @@
 //! Guests that read blocks of disks which their cells keep: what each prints, its steps and its sums were derived by hand.
 use crate::guests::{Case, Guest, PLAIN, try_both};
 use run_cases::Part;
-use std::test::Fail;
 
 /// A disk of one block, whose first word is the letter a.
 const LETTER: &[Part<'static>] = &[(0, &[0x61])];
@@ -78,7 +77,7 @@ const READS_TWICE: Guest<'static> = Guest {
 
 /// Each guest reads the block, and then each goes on. Page 0 is refilled in both runs of a guest.
 #[test]
-fn three_guests_share_a_block(rt: HostRuntime) -> Result<(), Fail> {
+fn three_guests_share_a_block(rt: HostRuntime) {
     let reads = Guest {
         refills: 4,
         ..READS
@@ -90,13 +89,13 @@ fn three_guests_share_a_block(rt: HostRuntime) -> Result<(), Fail> {
         guests: &[reads, reads, reads],
         runs: &[(0, 7), (1, 7), (2, 7), (0, 8), (1, 8), (2, 8)],
     }];
-    Ok(try_both(&rt, rt.alloc(), &cases)?)
+    try_both(&rt, rt.alloc(), &cases)
 }
 
 /// A guest that reads the block after another one has stored to its page of it finds it as the disk has it. A guest stores to three shared
 /// pages also where no frame of the machine is free. Blocks for which the cell has no frame are copied.
 #[test]
-fn a_store_breaks_the_own_page_alone(rt: HostRuntime) -> Result<(), Fail> {
+fn a_store_breaks_the_own_page_alone(rt: HostRuntime) {
     let cases = [
         Case {
             about: "a block that is read after a store to it",
@@ -131,13 +130,13 @@ fn a_store_breaks_the_own_page_alone(rt: HostRuntime) -> Result<(), Fail> {
             runs: &[(0, 27)],
         },
     ];
-    Ok(try_both(&rt, rt.alloc(), &cases)?)
+    try_both(&rt, rt.alloc(), &cases)
 }
 
 /// A block is copied where no cell keeps any, where another cell alone keeps it, and where the guest has written it. Each cell keeps the
 /// disks of the guests that are at home there.
 #[test]
-fn a_block_is_copied_where_it_isnt_kept(rt: HostRuntime) -> Result<(), Fail> {
+fn a_block_is_copied_where_it_isnt_kept(rt: HostRuntime) {
     let cases = [
         Case {
             about: "no cache",
@@ -176,13 +175,13 @@ fn a_block_is_copied_where_it_isnt_kept(rt: HostRuntime) -> Result<(), Fail> {
             runs: &[(0, 20)],
         },
     ];
-    Ok(try_both(&rt, rt.alloc(), &cases)?)
+    try_both(&rt, rt.alloc(), &cases)
 }
 
 /// A block that comes into the page of the read's own instruction is copied, and is what the guest goes on with: from its own page 0, which
 /// is refilled once; and from page 2, which it has read before: the second read breaks it.
 #[test]
-fn a_block_comes_over_the_code_that_reads_it(rt: HostRuntime) -> Result<(), Fail> {
+fn a_block_comes_over_the_code_that_reads_it(rt: HostRuntime) {
     let cases = [
         Case {
             about: "a block over page 0",
@@ -213,12 +212,12 @@ fn a_block_comes_over_the_code_that_reads_it(rt: HostRuntime) -> Result<(), Fail
             runs: &[(0, 20)],
         },
     ];
-    Ok(try_both(&rt, rt.alloc(), &cases)?)
+    try_both(&rt, rt.alloc(), &cases)
 }
 
 /// Eight guests read three blocks before the first of them stores to its pages. No frame of the machine is free.
 #[test]
-fn eight_guests_share_three_blocks(rt: HostRuntime) -> Result<(), Fail> {
+fn eight_guests_share_three_blocks(rt: HostRuntime) {
     let stores = Guest {
         refills: 8,
         ..STORES_TO_THREE
@@ -249,5 +248,5 @@ fn eight_guests_share_three_blocks(rt: HostRuntime) -> Result<(), Fail> {
             (7, 11),
         ],
     }];
-    Ok(try_both(&rt, rt.alloc(), &cases)?)
+    try_both(&rt, rt.alloc(), &cases)
 }

@@ -1,19 +1,19 @@
 //! Words and the forms that they are; descriptions, their files, and what comes of them.
+use crate::telling::{holds, must, same};
 use admission::{Fault, Form, Job, Refusal, admit, disks_in, read_form};
 use base_words::{Bytes, Name};
 use elf_image::ImageFault;
 use outside_io::{CallList, FileList, HeldFile, MemShelf, Shelf};
-use std::alloc::{AllocError, Global};
+use std::alloc::Global;
 use std::process::Abort;
-use std::test::Fail;
 
 /// The words as the system gives them.
-fn words_of(alloc: Global, words: &[&str]) -> Result<Vec<String>, AllocError> {
+fn words_of(rt: &impl Abort, alloc: Global, words: &[&str]) -> Vec<String> {
     let mut all = Vec::new(alloc);
     for word in words {
-        all.push(String::from_str(alloc, word)?)?;
+        must(rt, all.push(must(rt, String::from_str(alloc, word))));
     }
-    Ok(all)
+    all
 }
 
 /// Words, and what they have to be.
@@ -23,20 +23,19 @@ struct Row<'a> {
     form: Option<Form<'a>>,
 }
 
-fn try_words<R: Abort>(rt: &R, alloc: Global, row: &Row) -> Result<(), AllocError> {
-    let words = words_of(alloc, row.words)?;
+fn try_words<R: Abort>(rt: &R, alloc: Global, row: &Row) {
+    let words = words_of(rt, alloc, row.words);
     let form = match read_form(alloc, words.as_slice()) {
         Ok(form) => Some(form),
         Err(Refusal::Fault(_)) => None,
-        Err(Refusal::Memory) => return Err(AllocError),
+        Err(Refusal::Memory) => panic!(rt; "no memory is left"),
     };
     let about = row.words;
-    assert!(rt; form == row.form, "{about:?}");
-    Ok(())
+    holds(rt, form == row.form, about);
 }
 
 #[test]
-fn words_that_are_forms(rt: HostRuntime) -> Result<(), Fail> {
+fn words_that_are_forms(rt: HostRuntime) {
     let raw = Form::Raw("a", 5);
     let rows = [
         Row {
@@ -129,13 +128,12 @@ fn words_that_are_forms(rt: HostRuntime) -> Result<(), Fail> {
         },
     ];
     for row in &rows {
-        try_words(&rt, rt.alloc(), row)?;
+        try_words(&rt, rt.alloc(), row);
     }
-    Ok(())
 }
 
 #[test]
-fn words_that_are_none(rt: HostRuntime) -> Result<(), Fail> {
+fn words_that_are_none(rt: HostRuntime) {
     let rows: [&[&str]; 48] = [
         &[],
         &[""],
@@ -187,9 +185,8 @@ fn words_that_are_none(rt: HostRuntime) -> Result<(), Fail> {
         &["help"],
     ];
     for words in rows {
-        try_words(&rt, rt.alloc(), &Row { words, form: None })?;
+        try_words(&rt, rt.alloc(), &Row { words, form: None });
     }
-    Ok(())
 }
 
 /// One guest of 16 pages on one node of 16 frames, which runs for five steps.
@@ -292,40 +289,52 @@ fn plain<'a>() -> Case<'a> {
     }
 }
 
-fn held(alloc: Global, name: &str, bytes: Vec<u8>) -> Result<HeldFile, AllocError> {
-    Ok(HeldFile {
-        name: Name::copy_of(alloc, name)?,
+fn held(rt: &impl Abort, alloc: Global, name: &str, bytes: Vec<u8>) -> HeldFile {
+    HeldFile {
+        name: must(rt, Name::copy_of(alloc, name)),
         bytes: Bytes::from_vec(bytes),
-    })
+    }
 }
 
 /// So many zeros.
-fn zeros(alloc: Global, count: usize) -> Result<Vec<u8>, AllocError> {
+fn zeros(rt: &impl Abort, alloc: Global, count: usize) -> Vec<u8> {
     let mut bytes = Vec::new(alloc);
-    bytes.resize(count, 0u8)?;
-    Ok(bytes)
+    must(rt, bytes.resize(count, 0u8));
+    bytes
 }
 
 /// A shelf with a description, an image and a disk.
-fn shelf_of(alloc: Global, text: &str, case: &Case) -> Result<MemShelf, AllocError> {
+fn shelf_of(rt: &impl Abort, alloc: Global, text: &str, case: &Case) -> MemShelf {
     let mut files = FileList::new(alloc);
-    files.push(held(alloc, "m", text.as_bytes().to_vec(alloc)?)?)?;
-    files.push(held(alloc, "a.raw", zeros(alloc, case.image)?)?)?;
-    files.push(held(alloc, "d.img", zeros(alloc, case.disk)?)?)?;
-    Ok(MemShelf::new(alloc, files, CallList::from_vec(case.fails.to_vec(alloc)?)))
+    must(
+        rt,
+        files.push(held(rt, alloc, "m", must(rt, text.as_bytes().to_vec(alloc)))),
+    );
+    must(
+        rt,
+        files.push(held(rt, alloc, "a.raw", zeros(rt, alloc, case.image))),
+    );
+    must(
+        rt,
+        files.push(held(rt, alloc, "d.img", zeros(rt, alloc, case.disk))),
+    );
+    MemShelf::new(
+        alloc,
+        files,
+        CallList::from_vec(must(rt, case.fails.to_vec(alloc))),
+    )
 }
 
-fn try_case<R: Abort>(rt: &R, alloc: Global, case: &Case) -> Result<(), AllocError> {
-    let mut text = String::from_str(alloc, P1)?;
+fn try_case<R: Abort>(rt: &R, alloc: Global, case: &Case) {
+    let mut text = must(rt, String::from_str(alloc, P1));
     for (old, new) in case.changes {
-        text = text.replace(alloc, *old, *new)?;
+        text = must(rt, text.replace(alloc, *old, *new));
     }
-    let mut shelf = shelf_of(alloc, text.as_str(), case)?;
-    let words = words_of(alloc, &[case.option, "m"])?;
+    let mut shelf = shelf_of(rt, alloc, text.as_str(), case);
+    let words = words_of(rt, alloc, &[case.option, "m"]);
     let came = came_of(admit(alloc, words.as_slice(), &mut shelf));
-    assert_eq!(rt; came, case.came, "{text}");
-    assert_eq!(rt; shelf.faults(), case.faults, "faults of {text}");
-    Ok(())
+    same(rt, came, case.came, text.as_str());
+    same(rt, shelf.faults(), case.faults, text.as_str());
 }
 
 fn refused<'a>(changes: &'a [(&'a str, &'a str)], came: Came) -> Case<'a> {
@@ -338,25 +347,24 @@ fn refused<'a>(changes: &'a [(&'a str, &'a str)], came: Came) -> Case<'a> {
 
 /// What is made from a number is admitted: the images of four guests and a disk, of which no file is read.
 #[test]
-fn numbers_are_admitted(rt: HostRuntime) -> Result<(), Fail> {
+fn numbers_are_admitted(rt: HostRuntime) {
     let alloc = rt.alloc();
     let rows = [
         ("--make", Came::Made(5)),
         ("--load", Came::Monitored(4, true)),
     ];
     for (option, came) in rows {
-        let fails = CallList::from_vec(vec![in alloc; 1u64]?);
+        let fails = CallList::from_vec(must(&rt, vec![in alloc; 1u64]));
         let mut shelf = MemShelf::new(alloc, FileList::new(alloc), fails);
-        let words = words_of(alloc, &[option, "7"])?;
-        assert_eq!(&rt; came_of(admit(alloc, words.as_slice(), &mut shelf)), came);
-        assert_eq!(&rt; shelf.faults(), 0, "no file is read");
+        let words = words_of(&rt, alloc, &[option, "7"]);
+        assert!(&rt; came_of(admit(alloc, words.as_slice(), &mut shelf)) == came);
+        assert!(&rt; shelf.faults() == 0, "no file is read");
     }
-    Ok(())
 }
 
 /// The stages in their order: each row fails at one, and at all that come later too.
 #[test]
-fn stages_in_order(rt: HostRuntime) -> Result<(), Fail> {
+fn stages_in_order(rt: HostRuntime) {
     let rows = [
         plain(),
         Case {
@@ -431,9 +439,8 @@ fn stages_in_order(rt: HostRuntime) -> Result<(), Fail> {
         refused(&[("pages = 16", "pages = 17")], Came::Admission(0, 17, 16)),
     ];
     for case in &rows {
-        try_case(&rt, rt.alloc(), case)?;
+        try_case(&rt, rt.alloc(), case);
     }
-    Ok(())
 }
 
 /// A change of the description: what is replaced, and by what.
@@ -488,7 +495,7 @@ const PROCESSORS: Change<'static> = ("processors = [0]", "processors = [0, 0]");
 
 /// Items of each kind are admitted, under the monitor and alone; a cell that fails takes no frames.
 #[test]
-fn each_act_is_admitted(rt: HostRuntime) -> Result<(), Fail> {
+fn each_act_is_admitted(rt: HostRuntime) {
     let rows = [
         (
             refused(
@@ -525,20 +532,19 @@ fn each_act_is_admitted(rt: HostRuntime) -> Result<(), Fail> {
         ),
     ];
     for (case, came) in &rows {
-        try_case(&rt, rt.alloc(), case)?;
+        try_case(&rt, rt.alloc(), case);
         let alone = Case {
             option: "--private",
             came: *came,
             ..*case
         };
-        try_case(&rt, rt.alloc(), &alone)?;
+        try_case(&rt, rt.alloc(), &alone);
     }
-    Ok(())
 }
 
 /// Several nodes and cells with loans, processors, guests and virtual processors, input and disks.
 #[test]
-fn descriptions_are_admitted(rt: HostRuntime) -> Result<(), Fail> {
+fn descriptions_are_admitted(rt: HostRuntime) {
     let rows = [
         refused(&[PROCESSORS], Came::Monitored(1, true)),
         refused(&[("vcpus = 1", "vcpus = 4")], Came::Monitored(1, true)),
@@ -569,14 +575,13 @@ fn descriptions_are_admitted(rt: HostRuntime) -> Result<(), Fail> {
         },
     ];
     for case in &rows {
-        try_case(&rt, rt.alloc(), case)?;
+        try_case(&rt, rt.alloc(), case);
     }
-    Ok(())
 }
 
 /// Guests alone, and their disks at their limits.
 #[test]
-fn guests_alone(rt: HostRuntime) -> Result<(), Fail> {
+fn guests_alone(rt: HostRuntime) {
     let rows = [
         Case {
             came: Came::Alone(1, 0, 0),
@@ -640,29 +645,33 @@ fn guests_alone(rt: HostRuntime) -> Result<(), Fail> {
             option: "--private",
             ..*case
         };
-        try_case(&rt, rt.alloc(), &alone)?;
+        try_case(&rt, rt.alloc(), &alone);
     }
-    Ok(())
 }
 
 /// Each disk is made once, in the order of the guests.
 #[test]
-fn disks_in_order(rt: HostRuntime) -> Result<(), Fail> {
+fn disks_in_order(rt: HostRuntime) {
     let alloc = rt.alloc();
     let mut files = FileList::new(alloc);
-    files.push(held(alloc, "m", zeros(alloc, 4)?)?)?;
-    files.push(held(alloc, "d", zeros(alloc, 4096)?)?)?;
-    files.push(held(alloc, "e", zeros(alloc, 4097)?)?)?;
+    must(&rt, files.push(held(&rt, alloc, "m", zeros(&rt, alloc, 4))));
+    must(
+        &rt,
+        files.push(held(&rt, alloc, "d", zeros(&rt, alloc, 4096))),
+    );
+    must(
+        &rt,
+        files.push(held(&rt, alloc, "e", zeros(&rt, alloc, 4097))),
+    );
     let places = [Some(2), None, Some(1), Some(2)];
-    let (disks, numbers) = disks_in(alloc, files.as_slice(), &places)?;
+    let (disks, numbers) = must(&rt, disks_in(alloc, files.as_slice(), &places));
     let mut blocks = Vec::new(alloc);
     for disk in disks.as_slice() {
-        blocks.push(disk.len())?;
+        must(&rt, blocks.push(disk.len()));
     }
-    assert_eq!(rt; blocks.as_slice(), [2usize, 1].as_slice());
+    assert!(rt; blocks.as_slice() == [2usize, 1].as_slice());
     let expected = [Some(0usize), None, Some(1), Some(0)];
-    assert_eq!(rt; numbers.as_slice(), expected.as_slice());
-    Ok(())
+    assert!(rt; numbers.as_slice() == expected.as_slice());
 }
 
 /// So many bytes of a litmus file, the reads that fail, and what has to come; of the file's text nothing is asked.
@@ -674,20 +683,26 @@ struct LitmusCase<'a> {
     faults: u64,
 }
 
-fn try_litmus<R: Abort>(rt: &R, alloc: Global, case: &LitmusCase) -> Result<(), AllocError> {
+fn try_litmus<R: Abort>(rt: &R, alloc: Global, case: &LitmusCase) {
     let mut files = FileList::new(alloc);
-    files.push(held(alloc, "l", zeros(alloc, case.bytes)?)?)?;
-    let mut shelf = MemShelf::new(alloc, files, CallList::from_vec(case.fails.to_vec(alloc)?));
-    let words = words_of(alloc, &["--litmus", "l"])?;
+    must(
+        rt,
+        files.push(held(rt, alloc, "l", zeros(rt, alloc, case.bytes))),
+    );
+    let mut shelf = MemShelf::new(
+        alloc,
+        files,
+        CallList::from_vec(must(rt, case.fails.to_vec(alloc))),
+    );
+    let words = words_of(rt, alloc, &["--litmus", "l"]);
     let came = came_of(admit(alloc, words.as_slice(), &mut shelf));
     let bytes = case.bytes;
-    assert_eq!(rt; came, case.came, "{bytes} bytes");
-    assert_eq!(rt; shelf.faults(), case.faults, "faults of {bytes} bytes");
-    Ok(())
+    same(rt, came, case.came, ("bytes", bytes));
+    same(rt, shelf.faults(), case.faults, ("faults", bytes));
 }
 
 #[test]
-fn litmus_files(rt: HostRuntime) -> Result<(), Fail> {
+fn litmus_files(rt: HostRuntime) {
     let cases = [
         LitmusCase {
             bytes: 0,
@@ -715,9 +730,8 @@ fn litmus_files(rt: HostRuntime) -> Result<(), Fail> {
         },
     ];
     for case in &cases {
-        try_litmus(&rt, rt.alloc(), case)?;
+        try_litmus(&rt, rt.alloc(), case);
     }
-    Ok(())
 }
 
 /// A text, the words that name it, and what has to come.
@@ -728,19 +742,21 @@ struct TextCase<'a> {
     came: Came,
 }
 
-fn try_text<R: Abort>(rt: &R, alloc: Global, case: &TextCase) -> Result<(), AllocError> {
+fn try_text<R: Abort>(rt: &R, alloc: Global, case: &TextCase) {
     let mut files = FileList::new(alloc);
-    files.push(held(alloc, "a", case.text.to_vec(alloc)?)?)?;
+    must(
+        rt,
+        files.push(held(rt, alloc, "a", must(rt, case.text.to_vec(alloc)))),
+    );
     let mut shelf = MemShelf::new(alloc, files, CallList::from_vec(Vec::new(alloc)));
-    let words = words_of(alloc, case.words)?;
+    let words = words_of(rt, alloc, case.words);
     let came = came_of(admit(alloc, words.as_slice(), &mut shelf));
     let bytes = case.text.len();
-    assert_eq!(rt; came, case.came, "a text of {bytes} bytes");
-    Ok(())
+    same(rt, came, case.came, ("bytes", bytes));
 }
 
 #[test]
-fn texts(rt: HostRuntime) -> Result<(), Fail> {
+fn texts(rt: HostRuntime) {
     let print: &[&str] = &["--asm", "a"];
     let run: &[&str] = &["--asm", "a", "--steps", "1"];
     let cases = [
@@ -766,7 +782,6 @@ fn texts(rt: HostRuntime) -> Result<(), Fail> {
         },
     ];
     for case in &cases {
-        try_text(&rt, rt.alloc(), case)?;
+        try_text(&rt, rt.alloc(), case);
     }
-    Ok(())
 }

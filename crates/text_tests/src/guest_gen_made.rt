@@ -1,7 +1,7 @@
 //! What is made, against the text and the tables of its format written out.
+use crate::telling::must;
 use base_words::read_word;
 use guest_gen::{Made, MakeFault, make};
-use std::test::Fail;
 
 /// One guest, one step a run.
 const SMALL: &str = "\
@@ -39,7 +39,7 @@ fn file(made: &Made, number: usize) -> &[u8] {
 }
 
 #[test]
-fn refuses_what_is_out_of_range(rt: HostRuntime) -> Result<(), Fail> {
+fn refuses_what_is_out_of_range(rt: HostRuntime) {
     for (guests, steps) in [
         (0, 1),
         (5, 1),
@@ -53,36 +53,33 @@ fn refuses_what_is_out_of_range(rt: HostRuntime) -> Result<(), Fail> {
     for (guests, steps) in [(1, 1), (4, 400_000)] {
         assert!(rt; make(rt.alloc(), 0, guests, steps).is_ok());
     }
-    Ok(())
 }
 
 #[test]
-fn writes_the_description(rt: HostRuntime) -> Result<(), Fail> {
-    let made = make(rt.alloc(), 3, 1, 1)?;
+fn writes_the_description(rt: HostRuntime) {
+    let made = must(&rt, make(rt.alloc(), 3, 1, 1));
     assert!(rt; made.description.as_slice() == SMALL.as_bytes());
     for (guests, steps, length) in [(4, 50_000, 3494), (4, 400_000, 3534), (3, 1, 2555)] {
-        let made = make(rt.alloc(), 7, guests, steps)?;
-        assert_eq!(rt; made.description.len(), length);
+        let made = must(&rt, make(rt.alloc(), 7, guests, steps));
+        assert!(rt; made.description.len() == length);
     }
-    Ok(())
 }
 
 #[test]
-fn names_the_files(rt: HostRuntime) -> Result<(), Fail> {
-    let made = make(rt.alloc(), 7, 3, 1)?;
+fn names_the_files(rt: HostRuntime) {
+    let made = must(&rt, make(rt.alloc(), 7, 3, 1));
     let names = ["g0.elf", "g1.elf", "g2.elf", "d0.img"];
-    assert_eq!(rt; made.files.len(), 4);
+    assert!(rt; made.files.len() == 4);
     for (file, name) in made.files.as_slice().iter().zip(names) {
         assert!(rt; file.name.as_str() == name);
     }
-    Ok(())
 }
 
 #[test]
-fn makes_the_images(rt: HostRuntime) -> Result<(), Fail> {
-    let made = make(rt.alloc(), 0xFFFF_FFFE, 4, 1)?;
+fn makes_the_images(rt: HostRuntime) {
+    let made = must(&rt, make(rt.alloc(), 0xFFFF_FFFE, 4, 1));
     let image = file(&made, 1);
-    assert_eq!(rt; image.len(), 836);
+    assert!(rt; image.len() == 836);
     #[rattlefmt::skip]
     let words = [
         (0, 0x7F45_4C46), (4, 0x0102_0100), (8, 0), (12, 0), (16, 0x0002_0008), (20, 1), (24, 0xC000_0200), (28, 52), (32, 0), (36, 0),
@@ -100,18 +97,16 @@ fn makes_the_images(rt: HostRuntime) -> Result<(), Fail> {
     assert!(rt; word(file(&made, 2), 148 + 0x208) == Some(0x3C11_0000));
     assert!(rt; word(file(&made, 2), 148 + 0x20C) == Some(0x3631_0000));
     assert!(rt; word(file(&made, 3), 148 + 0x20C) == Some(0x3631_0001));
-    Ok(())
 }
 
 #[test]
-fn makes_the_disk(rt: HostRuntime) -> Result<(), Fail> {
-    let made = make(rt.alloc(), 7, 1, 1)?;
+fn makes_the_disk(rt: HostRuntime) {
+    let made = must(&rt, make(rt.alloc(), 7, 1, 1));
     let disk = file(&made, 1);
-    assert_eq!(rt; disk.len(), 32_768);
+    assert!(rt; disk.len() == 32_768);
     assert!(rt; word(disk, 0) == Some(0xCC6C_24FB));
     assert!(rt; word(disk, 4 * 8191) == Some(0x5473_768E));
-    let wrapped = make(rt.alloc(), 0xFFFF_FFFF, 1, 1)?;
+    let wrapped = must(&rt, make(rt.alloc(), 0xFFFF_FFFF, 1, 1));
     assert!(rt; word(file(&wrapped, 1), 0) == Some(0xBE39_B193));
     assert!(rt; word(file(&wrapped, 1), 4) == Some(0));
-    Ok(())
 }

@@ -15,3 +15,5 @@ mod litmus_calls;
 mod litmus_file_texts;
 #[cfg(test)]
 mod page_slots_turns;
+#[cfg(test)]
+mod telling;

@@ -1,10 +1,11 @@
 //! Litmus files, with what they print. The expected texts are worked out by hand.
+use crate::telling::{holds, must, same};
 use base_words::ProcId;
 use litmus_run::litmus;
 use outside_io::{CallList, FreeGate, Gate, GatePoint, MemSink};
-use std::alloc::{AllocError, Global};
+use std::alloc::Global;
+use std::process::Abort;
 use std::sync::atomic::{AtomicU64, Ordering};
-use std::test::Fail;
 
 /// How often a gate looks at most, before it lets the access pass all the same.
 const LOOKS: u32 = 10_000_000;
@@ -51,14 +52,13 @@ const FILES: [(&str, u8, &str); 9] = [
 ];
 
 #[test]
-fn files_are_carried_out_or_refused(rt: HostRuntime) -> Result<(), Fail> {
+fn files_are_carried_out_or_refused(rt: HostRuntime) {
     for (text, expected, printed) in FILES {
         let mut sink = MemSink::new(rt.alloc(), CallList::new(rt.alloc()));
         let status = litmus(&rt, rt.alloc(), text.as_bytes(), &mut sink, &FreeGate);
-        assert_eq!(rt; status, expected, "status of {text}");
-        assert_eq!(rt; sink.bytes(), printed.as_bytes(), "text of {text}");
+        same(&rt, status, expected, ("status of", text));
+        same(&rt, sink.bytes(), printed.as_bytes(), ("text of", text));
     }
-    Ok(())
 }
 
 // Which call of the output fails, with the status of a file that is carried out, and of one that is refused. Of the first file
@@ -66,19 +66,18 @@ fn files_are_carried_out_or_refused(rt: HostRuntime) -> Result<(), Fail> {
 const FAILURES: [(u64, u8, u8); 4] = [(1, 4, 10), (2, 4, 10), (3, 4, 10), (4, 0, 10)];
 
 #[test]
-fn an_output_may_fail(rt: HostRuntime) -> Result<(), Fail> {
+fn an_output_may_fail(rt: HostRuntime) {
     for (call, carried_out, refused) in FAILURES {
         let files = [(FILES[1], carried_out), (FILES[5], refused)];
         for ((text, _, printed), expected) in files {
             let mut fails = CallList::new(rt.alloc());
-            fails.push(call)?;
+            must(&rt, fails.push(call));
             let mut sink = MemSink::new(rt.alloc(), fails);
             let status = litmus(&rt, rt.alloc(), text.as_bytes(), &mut sink, &FreeGate);
-            assert_eq!(rt; status, expected, "status of {text}");
+            same(&rt, status, expected, ("status of", text));
             assert!(rt; printed.as_bytes().starts_with(sink.bytes()));
         }
     }
-    Ok(())
 }
 
 /// Holds the first caller's access until the second one's was seen.
@@ -108,7 +107,7 @@ impl Gate for Holding {
 }
 
 #[test]
-fn two_pages_are_held_at_once(rt: HostRuntime) -> Result<(), Fail> {
+fn two_pages_are_held_at_once(rt: HostRuntime) {
     let text = "pages = 2\n[[caller]]\nops = [[0, 0, 1]]\n[[caller]]\nops = [[1, 0, 2]]\n";
     let gate = Holding {
         seen: AtomicU64::new(0),
@@ -116,13 +115,9 @@ fn two_pages_are_held_at_once(rt: HostRuntime) -> Result<(), Fail> {
     };
     let mut sink = MemSink::new(rt.alloc(), CallList::new(rt.alloc()));
     let status = litmus(&rt, rt.alloc(), text.as_bytes(), &mut sink, &gate);
-    assert_eq!(rt; status, 0);
-    assert_eq!(rt;
-        sink.bytes(),
-        b"page 0 1\n0 s 0 1\npage 1 1\n1 s 0 2\n".as_slice()
-    );
-    assert_eq!(rt; gate.held.load(Ordering::SeqCst), 1, "the gate saw it");
-    Ok(())
+    assert!(rt; status == 0);
+    assert!(rt; sink.bytes() == b"page 0 1\n0 s 0 1\npage 1 1\n1 s 0 2\n".as_slice());
+    assert!(rt; gate.held.load(Ordering::SeqCst) == 1, "the gate saw it");
 }
 
 /// Counts who is at the gate, and how often somebody else was there.
@@ -148,23 +143,29 @@ impl Gate for Counting {
 }
 
 // A file of 16 callers, each of which stores and loads so often: all on one page, or each on a page of its own.
-fn crowd(alloc: Global, times: u32, apart: bool) -> Result<String, AllocError> {
+fn crowd(rt: &impl Abort, alloc: Global, times: u32, apart: bool) -> String {
     let pages = if apart { 16 } else { 1 };
-    let mut text = format!(in alloc; "pages = {pages}\n")?;
+    let mut text = must(rt, format!(in alloc; "pages = {pages}\n"));
     for caller in 0..16u32 {
         let page = if apart { caller } else { 0 };
-        text.push_str("[[caller]]\nops = [")?;
+        must(rt, text.push_str("[[caller]]\nops = ["));
         for value in 0..times {
-            text.push_str(format!(in alloc; "[{page}, 8, {value}], [{page}, 8], ")?.as_str())?;
+            must(
+                rt,
+                text.push_str(must(
+                    rt,
+                    format!(in alloc; "[{page}, 8, {value}], [{page}, 8], "),
+                ).as_str()),
+            );
         }
-        text.push_str("]\n")?;
+        must(rt, text.push_str("]\n"));
     }
-    Ok(text)
+    text
 }
 
 #[test]
-fn sixteen_callers_wait_for_a_page(rt: HostRuntime) -> Result<(), Fail> {
-    let text = crowd(rt.alloc(), 250, false)?;
+fn sixteen_callers_wait_for_a_page(rt: HostRuntime) {
+    let text = crowd(&rt, rt.alloc(), 250, false);
     let gate = Counting {
         inside: AtomicU64::new(0),
         met: AtomicU64::new(0),
@@ -172,32 +173,32 @@ fn sixteen_callers_wait_for_a_page(rt: HostRuntime) -> Result<(), Fail> {
     };
     let mut sink = MemSink::new(rt.alloc(), CallList::new(rt.alloc()));
     let status = litmus(&rt, rt.alloc(), text.as_bytes(), &mut sink, &gate);
-    assert_eq!(rt; status, 0);
+    assert!(rt; status == 0);
     assert!(rt; sink.bytes().starts_with(b"page 0 8000\n"));
-    assert_eq!(rt; gate.passed.load(Ordering::SeqCst), 8000);
-    assert_eq!(rt;
-        gate.met.load(Ordering::SeqCst),
-        0,
+    assert!(rt; gate.passed.load(Ordering::SeqCst) == 8000);
+    assert!(rt;
+        gate.met.load(Ordering::SeqCst) == 0,
         "the gate is passed while the page is held"
     );
-    Ok(())
 }
 
 #[test]
-fn sixteen_callers_have_pages_of_their_own(rt: HostRuntime) -> Result<(), Fail> {
-    let text = crowd(rt.alloc(), 2, true)?;
+fn sixteen_callers_have_pages_of_their_own(rt: HostRuntime) {
+    let text = crowd(&rt, rt.alloc(), 2, true);
     let mut expected = String::new(rt.alloc());
     for caller in 0..16u32 {
-        let entries = format!(in rt.alloc();
-            "page {caller} 4\n{caller} s 8 0\n{caller} l 8 0\n{caller} s 8 1\n{caller} l 8 1\n"
-        )?;
-        expected.push_str(entries.as_str())?;
+        let entries = must(
+            &rt,
+            format!(in rt.alloc();
+                "page {caller} 4\n{caller} s 8 0\n{caller} l 8 0\n{caller} s 8 1\n{caller} l 8 1\n"
+            ),
+        );
+        must(&rt, expected.push_str(entries.as_str()));
     }
     let mut sink = MemSink::new(rt.alloc(), CallList::new(rt.alloc()));
     let status = litmus(&rt, rt.alloc(), text.as_bytes(), &mut sink, &FreeGate);
-    assert_eq!(rt; status, 0);
-    assert_eq!(rt; sink.bytes(), expected.as_str().as_bytes());
-    Ok(())
+    assert!(rt; status == 0);
+    assert!(rt; sink.bytes() == expected.as_str().as_bytes());
 }
 
 // Two callers on two pages, with the texts that can come: those that some order of all four accesses has.
@@ -223,18 +224,14 @@ const ORDERS: [(&str, [&str; 3]); 2] = [
 ];
 
 #[test]
-fn two_pages_show_one_order(rt: HostRuntime) -> Result<(), Fail> {
+fn two_pages_show_one_order(rt: HostRuntime) {
     for (text, texts) in ORDERS {
         for _ in 0..200 {
             let mut sink = MemSink::new(rt.alloc(), CallList::new(rt.alloc()));
             let status = litmus(&rt, rt.alloc(), text.as_bytes(), &mut sink, &FreeGate);
             let came = sink.bytes();
-            assert_eq!(rt; status, 0);
-            assert!(rt;
-                texts.iter().any(|text| text.as_bytes() == came),
-                "of {text}"
-            );
+            assert!(rt; status == 0);
+            holds(&rt, texts.iter().any(|text| text.as_bytes() == came), text);
         }
     }
-    Ok(())
 }

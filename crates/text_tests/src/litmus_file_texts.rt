@@ -1,9 +1,10 @@
 //! Litmus files, with what they ask for or the fault that is told.
+use crate::telling::{must, same};
 use base_words::Ppn;
 use litmus_file::read_litmus;
 use page_slots::Op;
-use std::alloc::{AllocError, Global};
-use std::test::Fail;
+use std::alloc::Global;
+use std::process::Abort;
 
 // Files that are refused, with the fault that each prints: in the order of the faults.
 const FAULTS: [(&str, &str); 34] = [
@@ -101,39 +102,41 @@ const FAULTS: [(&str, &str); 34] = [
 ];
 
 // The fault of a file, as it is printed, or "taken".
-fn told(alloc: Global, bytes: &[u8]) -> Result<String, AllocError> {
+fn told(rt: &impl Abort, alloc: Global, bytes: &[u8]) -> String {
     match read_litmus(alloc, bytes) {
-        Ok(_) => String::from_str(alloc, "taken"),
-        Err(fault) => format!(in alloc; "{fault}"),
+        Ok(_) => must(rt, String::from_str(alloc, "taken")),
+        Err(fault) => must(rt, format!(in alloc; "{fault}")),
     }
 }
 
 #[test]
-fn the_first_fault_is_told(rt: HostRuntime) -> Result<(), Fail> {
+fn the_first_fault_is_told(rt: HostRuntime) {
     for (text, expected) in FAULTS {
-        let fault = told(rt.alloc(), text.as_bytes())?;
-        assert_eq!(rt; fault.as_str(), expected, "of {text}");
+        let fault = told(&rt, rt.alloc(), text.as_bytes());
+        same(&rt, fault.as_str(), expected, text);
     }
-    let fault = told(rt.alloc(), b"pages = 1 # \xff\n[[caller]]\nops = []")?;
-    assert_eq!(rt; fault.as_str(), "toml");
-    Ok(())
+    let fault = told(&rt, rt.alloc(), b"pages = 1 # \xff\n[[caller]]\nops = []");
+    assert!(rt; fault.as_str() == "toml");
 }
 
 // So many callers, the first with so many operations.
-fn crowd(alloc: Global, callers: u32, ops: u32) -> Result<String, AllocError> {
-    let mut text = String::from_str(alloc, "pages = 1\n[[caller]]\nops = [")?;
+fn crowd(rt: &impl Abort, alloc: Global, callers: u32, ops: u32) -> String {
+    let mut text = must(
+        rt,
+        String::from_str(alloc, "pages = 1\n[[caller]]\nops = ["),
+    );
     for _ in 0..ops {
-        text.push_str("[0, 0], ")?;
+        must(rt, text.push_str("[0, 0], "));
     }
-    text.push_str("]\n")?;
+    must(rt, text.push_str("]\n"));
     for _ in 1..callers {
-        text.push_str("[[caller]]\nops = []\n")?;
+        must(rt, text.push_str("[[caller]]\nops = []\n"));
     }
-    Ok(text)
+    text
 }
 
 #[test]
-fn callers_and_operations_are_counted(rt: HostRuntime) -> Result<(), Fail> {
+fn callers_and_operations_are_counted(rt: HostRuntime) {
     let rows = [
         (1, 1000, "taken"),
         (1, 1001, "range caller[0].ops 1001"),
@@ -141,19 +144,14 @@ fn callers_and_operations_are_counted(rt: HostRuntime) -> Result<(), Fail> {
         (17, 1001, "range caller 17"),
     ];
     for (callers, ops, expected) in rows {
-        let text = crowd(rt.alloc(), callers, ops)?;
-        let fault = told(rt.alloc(), text.as_bytes())?;
-        assert_eq!(rt;
-            fault.as_str(),
-            expected,
-            "of {callers} callers, {ops} operations"
-        );
+        let text = crowd(&rt, rt.alloc(), callers, ops);
+        let fault = told(&rt, rt.alloc(), text.as_bytes());
+        same(&rt, fault.as_str(), expected, (callers, ops));
     }
-    Ok(())
 }
 
 #[test]
-fn operations_are_read(rt: HostRuntime) -> Result<(), Fail> {
+fn operations_are_read(rt: HostRuntime) {
     let text =
         "pages = 16\n[[caller]]\nops = [[15, 4092], [0, 0, 4294967295], [1, 4088, 0]]\n[[caller]]\nops = []";
     let Ok(litmus) = read_litmus(rt.alloc(), text.as_bytes()) else {
@@ -178,8 +176,7 @@ fn operations_are_read(rt: HostRuntime) -> Result<(), Fail> {
     let [first, second] = litmus.callers.as_slice() else {
         panic!(rt; "there are two callers")
     };
-    assert_eq!(rt; litmus.pages, 16);
+    assert!(rt; litmus.pages == 16);
     assert!(rt; first.as_slice() == expected.as_slice());
     assert!(rt; second.is_empty());
-    Ok(())
 }

@@ -2,13 +2,13 @@
 ghost use Rattle.std.specs.Prelude.{◌≡◌};
 ghost use Rattle.page_slots.specs.Slots.{CallerState, IsOf};
 
+use crate::telling::{gave, must, same};
 use base_words::{GuestId, Ppn, VcpuId};
 use outside_io::{Gate, GatePoint};
 use page_slots::{Caller, CallerList, Entry, PageSlots, SlotAccess, close};
-use std::alloc::AllocError;
+use std::process::Abort;
 use std::sync::Wait;
 use std::sync::atomic::{AtomicU64, Ordering};
-use std::test::Fail;
 
 /// Notes where it is passed: the caller, and a hundred for each access before.
 #[derive(Drop)]
@@ -38,26 +38,26 @@ impl Gate for Noting {
 }
 
 // Seven accesses. The answers of the loads, in order.
-fn play<R: Wait, G: Gate>(
+fn play<R: Abort + Wait, G: Gate>(
     rt: &R,
     slots: &PageSlots,
     zero: &mut Caller,
     one: &mut Caller,
     gate: &G,
-) -> Result<[u32; 4], AllocError>
+) -> [u32; 4]
     requires made { IsOf slots.now zero.old × IsOf slots.now one.old }
     requires pages { slots.now.pages ≡ 2 }
     ensures zero { (zero.new.slots ≡ zero.old.slots) × (zero.new.number ≡ zero.old.number) }
     ensures one { (one.new.slots ≡ one.old.slots) × (one.new.number ≡ one.old.number) }
 {
-    slots.store(rt, zero, Ppn(0), 0, 5, gate)?;
-    let first = slots.load(rt, one, Ppn(0), 0, gate)?;
-    let blank = slots.load(rt, one, Ppn(0), 4, gate)?;
-    slots.store(rt, one, Ppn(1), 4092, 4_294_967_295, gate)?;
-    let greatest = slots.load(rt, zero, Ppn(1), 4092, gate)?;
-    slots.store(rt, one, Ppn(0), 0, 6, gate)?;
-    let second = slots.load(rt, zero, Ppn(0), 0, gate)?;
-    Ok([first, blank, greatest, second])
+    must(rt, slots.store(rt, zero, Ppn(0), 0, 5, gate));
+    let first = must(rt, slots.load(rt, one, Ppn(0), 0, gate));
+    let blank = must(rt, slots.load(rt, one, Ppn(0), 4, gate));
+    must(rt, slots.store(rt, one, Ppn(1), 4092, 4_294_967_295, gate));
+    let greatest = must(rt, slots.load(rt, zero, Ppn(1), 4092, gate));
+    must(rt, slots.store(rt, one, Ppn(0), 0, 6, gate));
+    let second = must(rt, slots.load(rt, zero, Ppn(0), 0, gate));
+    [first, blank, greatest, second]
 }
 
 fn loaded(caller: u8, page: u32, offset: u32, value: u32) -> Entry {
@@ -81,7 +81,7 @@ fn stored(caller: u8, page: u32, offset: u32, value: u32) -> Entry {
 }
 
 #[test]
-fn histories_have_each_access(rt: HostRuntime) -> Result<(), Fail> {
+fn histories_have_each_access(rt: HostRuntime) {
     let gate = Noting {
         count: AtomicU64::new(0),
         points: [
@@ -95,20 +95,20 @@ fn histories_have_each_access(rt: HostRuntime) -> Result<(), Fail> {
             AtomicU64::new(9999),
         ],
     };
-    let (slots, callers) = PageSlots::new(rt.alloc(), 2, 2)?;
+    let (slots, callers) = gave(&rt, PageSlots::new(rt.alloc(), 2, 2));
     let mut callers = callers.into_vec();
     let (Some(mut one), Some(mut zero)) = (callers.pop(), callers.pop()) else {
         panic!(rt; "there are two callers")
     };
-    assert_eq!(rt; (zero.number(), one.number()), (0, 1));
-    let answers = play(&rt, &slots, &mut zero, &mut one, &gate)?;
-    assert_eq!(rt; answers, [5, 0, 4_294_967_295, 6]);
+    assert!(rt; (zero.number(), one.number()) == (0, 1));
+    let answers = play(&rt, &slots, &mut zero, &mut one, &gate);
+    assert!(rt; answers == [5, 0, 4_294_967_295, 6]);
     for (place, told) in [0, 1, 101, 201, 100, 301, 200, 9999].iter().enumerate() {
         let point = gate.points[place].load(Ordering::SeqCst);
-        assert_eq!(rt; point, *told, "the point of access {place}");
+        same(&rt, point, *told, ("the point of access", place));
     }
-    callers.push(zero)?;
-    callers.push(one)?;
+    gave(&rt, callers.push(zero));
+    gave(&rt, callers.push(one));
     let histories = close(slots, CallerList::from_vec(callers));
     let expected: [&[Entry]; 2] = [
         &[
@@ -123,12 +123,11 @@ fn histories_have_each_access(rt: HostRuntime) -> Result<(), Fail> {
             loaded(0, 1, 4092, 4_294_967_295),
         ],
     ];
-    assert_eq!(rt; histories.len(), 2);
+    assert!(rt; histories.len() == 2);
     for (history, wanted) in histories.as_slice().iter().zip(expected) {
-        assert_eq!(rt; history.len(), wanted.len());
+        assert!(rt; history.len() == wanted.len());
         for (entry, want) in history.iter().zip(wanted) {
-            assert_eq!(rt; *entry, *want);
+            assert!(rt; *entry == *want);
         }
     }
-    Ok(())
 }

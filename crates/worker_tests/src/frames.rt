@@ -1,18 +1,18 @@
 //! A whole run, and what it leaves of the machine's frames.
-ghost use Rattle.std.specs.Prelude.{◌≡◌, ◌*◌, ◌<◌, IfOk, length};
+ghost use Rattle.std.specs.Prelude.{◌≡◌, ◌*◌, ◌<◌, length};
 ghost use Rattle.std.specs.Bool.{OnTrue};
 ghost use Rattle.frame_words.specs.Holders.{IsMade};
 
+use crate::telling::gave;
 use base_words::{CellId, End, FrameNo};
 use frame_words::{Borrow, FrameTable, Holder, Took, borrow, take};
 use guest_cases::{PRINTS_A, described};
 use machine_desc::Machine;
 use outside_io::FreeGate;
 use run_workers::{Finished, finish};
-use std::alloc::{AllocError, Global};
+use std::alloc::Global;
 use std::process::Abort;
 use std::sync::Wait;
-use std::test::Fail;
 use std::thread::Threads;
 
 /// Two guests of three pages each, at home on a node of four frames. The other node has four more, of which its cell lends two. The
@@ -63,17 +63,14 @@ fn is_small(machine: &Machine) -> bool
 }
 
 /// The run of the two guests.
-fn whole_run<R: Abort + Sync + Threads + Wait>(
-    rt: &R,
-    alloc: Global,
-) -> Result<Finished, AllocError>
-    ensures made { IfOk result (λ f. IsMade f.table f.holder) }
-    ensures frames { IfOk result (λ f. f.table.terms.frames ≡ 8) }
-    ensures lends { IfOk result (λ f. length f.table.terms.lends ≡ 2) }
+fn whole_run<R: Abort + Sync + Threads + Wait>(rt: &R, alloc: Global) -> Finished
+    ensures made { IsMade result.table result.holder }
+    ensures frames { result.table.terms.frames ≡ 8 }
+    ensures lends { length result.table.terms.lends ≡ 2 }
 {
-    let (machine, plan, sources) = described(alloc, TWO_GUESTS, &PRINTS_A, &PRINTS_A)?;
+    let (machine, plan, sources) = gave(rt, described(alloc, TWO_GUESTS, &PRINTS_A, &PRINTS_A));
     assert!(rt; is_small(&machine), "the machine is as described");
-    finish(rt, alloc, &machine, &plan, sources, &FreeGate)
+    gave(rt, finish(rt, alloc, &machine, &plan, sources, &FreeGate))
 }
 
 /// Whether a frame can be taken, under this generation.
@@ -117,28 +114,25 @@ fn loans(table: &FrameTable, holder: &mut Holder) -> [Borrow; 4]
 }
 
 #[test]
-fn all_frames_and_loans_are_free_once_guests_have_ended_one_by_one(
-    rt: HostRuntime,
-) -> Result<(), Fail> {
-    let mut done = whole_run(&rt, rt.alloc())?;
+fn all_frames_and_loans_are_free_once_guests_have_ended_one_by_one(rt: HostRuntime) {
+    let mut done = whole_run(&rt, rt.alloc());
     let ends = match done.record.guests.as_slice() {
         [first, second] => Some((first.end, second.end)),
         _ => None,
     };
-    assert_eq!(rt; ends, Some((End::Halted, End::Budget)), "how they ended");
+    assert!(rt; ends == Some((End::Halted, End::Budget)), "how they ended");
     let free = are_free(&done.table, &mut done.holder);
-    assert_eq!(rt; free.as_slice(), [true; 8].as_slice(), "frames");
+    assert!(rt; free.as_slice() == [true; 8].as_slice(), "frames");
     let loans = loans(&done.table, &mut done.holder);
-    assert_eq!(rt;
-        loans.as_slice(),
-        [
-            Borrow::AtLimit(0),
-            Borrow::Lent,
-            Borrow::Lent,
-            Borrow::AtLimit(2),
-        ]
-        .as_slice(),
+    assert!(rt;
+        loans.as_slice()
+            == [
+                Borrow::AtLimit(0),
+                Borrow::Lent,
+                Borrow::Lent,
+                Borrow::AtLimit(2),
+            ]
+            .as_slice(),
         "the first cell lends nothing, and the other one two frames"
     );
-    Ok(())
 }

@@ -4,8 +4,8 @@ use Rattle.course_tests.proofs.guest_course_entries.a_guest_prints_what_it_store
 
 pub boot-requires : goal.boot-requires
 boot-requires g c =
-    let around = c.in_ok-around.ensures in
-    let frames = c.in_ok-frames.ensures in
+    let around = c.around.ensures in
+    let frames = c.frames-frames.ensures in
     record {
       some_vcpus = omega arith;
       few_vcpus = omega arith;

@@ -5,13 +5,13 @@ use Rattle.course_tests.proofs.DiskLemmas.{unwritten, whole}
 use Rattle.course_tests.proofs.guest_course_entries.a_guest_prints_what_its_disk_has.Goals as goal
 
 pub new-disk-requires : goal.new-disk-requires
-new-disk-requires g c = let one = c.in_ok-block.ensures.one in omega arith
+new-disk-requires g c = let one = c.block.ensures.one in omega arith
 
 pub boot-requires : goal.boot-requires
 boot-requires g c =
-    let around = c.in_ok-around.ensures in
-    let frames = c.in_ok-frames.ensures in
-    let bytes = bytes_of (base_pages (Some c.in_ok-block.field-0)) in
+    let around = c.around.ensures in
+    let frames = c.frames-frames.ensures in
+    let bytes = bytes_of (base_pages (Some c.block.result)) in
     record {
       some_vcpus = omega arith;
       few_vcpus = omega arith;
@@ -21,5 +21,5 @@ boot-requires g c =
       on_nodes = rw (around.nodes, around.processors) ((omega arith), tt);
       whole = frames.whole;
       unwritten = unwritten c.new-disk.result bytes c.new-disk.ensures;
-      blocks = whole c.new-disk.result bytes c.new-disk.ensures c.in_ok-block.ensures.whole;
+      blocks = whole c.new-disk.result bytes c.new-disk.ensures c.block.ensures.whole;
     }

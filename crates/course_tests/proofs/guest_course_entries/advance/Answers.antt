@@ -10,7 +10,7 @@ again : (s t : GuestState) (p v : ℕ) (act : DevAct) → LeavesAct s p v act t 
 again s t p v act l = subst (λ (x : GuestState). LeavesAct x p v act x) (sym l.same) (record { traps = l.traps; defers = l.defers; same = refl })
 
 pub act_hurdle-requires-clause-left : goal.act_hurdle-requires-clause-left
-act_hurdle-requires-clause-left c = (0, again (state_of c.step.new.self) (state_of c.serve.new.self) 0 c.args.vcpu.0 c.in-Left.act c.in-Left.ensures.enters)
+act_hurdle-requires-clause-left g c = (0, again (state_of c.step.new.self) (state_of c.serve.new.self) 0 c.args.vcpu.0 c.in-Left.act c.in-Left.ensures.enters)
 
 pub carry_out-requires-clause-left : goal.carry_out-requires-clause-left
-carry_out-requires-clause-left c = (0, again (state_of c.step.new.self) (state_of c.serve.new.self) 0 c.args.vcpu.0 c.in-Left.act c.in-Left.ensures.enters)
+carry_out-requires-clause-left g c = (0, again (state_of c.step.new.self) (state_of c.serve.new.self) 0 c.args.vcpu.0 c.in-Left.act c.in-Left.ensures.enters)

@@ -3,9 +3,9 @@ use Rattle.std.proofs.Common.{arith}
 use Rattle.course_tests.proofs.guest_course_entries.come.Goals as goal
 
 pub take_in_hand-requires-clause-fits : goal.take_in_hand-requires-clause-fits
-take_in_hand-requires-clause-fits c =
-    let long = c.in_ok-packet.ensures.long in
-    let copied = c.in_ok-packet.ensures.copied in
+take_in_hand-requires-clause-fits g c =
+    let long = c.packet.ensures.long in
+    let copied = c.packet.ensures.copied in
     record {
       few = omega (arith, long);
       whole = λ handed is. absurd cc;

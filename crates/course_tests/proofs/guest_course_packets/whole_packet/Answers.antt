@@ -4,6 +4,6 @@ use Rattle.std.proofs.lemmas.List.{length-take}
 use Rattle.course_tests.proofs.guest_course_packets.whole_packet.Goals as goal
 
 pub returns-clause-whole : goal.returns-clause-whole
-returns-clause-whole c =
-    let whole : length c.in_ok-page.page.value.value ≡ 4096 = rw c.in_ok-page.ensures.ok c.in_ok-letter.ensures in
+returns-clause-whole g c =
+    let whole : length c.in-Ok.page.value.value ≡ 4096 = rw c.in-Ok.ensures.ok c.page_of-letter.ensures in
     simp length-take (omega (arith, whole))

@@ -5,13 +5,13 @@ use Rattle.course_tests.proofs.DiskLemmas.{unwritten, whole}
 use Rattle.course_tests.proofs.guest_course_sharing.guest.Goals as goal
 
 pub new-disk-requires : goal.new-disk-requires
-new-disk-requires c = let two = c.in_ok-blocks.ensures.two in omega arith
+new-disk-requires g c = let two = c.blocks-2.ensures.two in omega arith
 
 pub boot-requires : goal.boot-requires
-boot-requires c =
-    let around = c.in_ok-around.ensures in
-    let frames = c.in_ok-frames.ensures in
-    let bytes = bytes_of (base_pages (Some c.in_ok-blocks.field-0)) in
+boot-requires g c =
+    let around = c.around.ensures in
+    let frames = c.frames-frames.ensures in
+    let bytes = bytes_of (base_pages (Some c.blocks-2.result)) in
     record {
       some_vcpus = omega arith;
       few_vcpus = omega arith;
@@ -21,5 +21,5 @@ boot-requires c =
       on_nodes = rw (around.nodes, around.processors) ((omega arith), tt);
       whole = frames.whole;
       unwritten = unwritten c.new-disk.result bytes c.new-disk.ensures;
-      blocks = whole c.new-disk.result bytes c.new-disk.ensures c.in_ok-blocks.ensures.whole;
+      blocks = whole c.new-disk.result bytes c.new-disk.ensures c.blocks-2.ensures.whole;
     }

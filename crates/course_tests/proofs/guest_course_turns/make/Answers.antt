@@ -4,8 +4,5 @@ use Rattle.guest_course.specs.CourseRules.{IsSound}
 use Rattle.guest_course.specs.declared.course.Course.{Course}
 use Rattle.course_tests.proofs.guest_course_turns.make.Goals as goal
 
-pub returns-in_err-out : goal.returns-in_err-out
-returns-in_err-out c = subst (λ (x : Course). IsSound x) (sym c.outgoing.ensures.same) c.requires.sound
-
 pub carry_out-requires-clause-sound : goal.carry_out-requires-clause-sound
-carry_out-requires-clause-sound c = subst (λ (x : Course). IsSound x) (sym c.outgoing.ensures.same) c.requires.sound
+carry_out-requires-clause-sound g c = subst (λ (x : Course). IsSound x) (sym c.outgoing.ensures.same) c.requires.sound

@@ -5,7 +5,7 @@ use Rattle.machine_tests.specs.StandIn.{Traps}
 use Rattle.machine_tests.proofs.trap_emulate_rig.step.Goals as goal
 
 pub emulate-told-requires-clause-traps : goal.emulate-told-requires-clause-traps
-emulate-told-requires-clause-traps c =
-    let same : c.in_ok-clone.field-0 ≡ c.args.vcpu.now = search rules in
-    let traps = subst (λ (o : Option TrapCause). IfSome o (Traps c.args.vcpu.now 16 c.args.needs)) c.in-Some.is c.in_ok-cause.ensures in
+emulate-told-requires-clause-traps g c =
+    let same : c.in-Ok.copy ≡ c.args.vcpu.now = search rules in
+    let traps = subst (λ (o : Option TrapCause). IfSome o (Traps c.args.vcpu.now 16 c.args.needs)) c.in-Some.is c.trap.ensures in
     traps (record { pages = 16; memory = _; vcpus = _; devices = _; disk = _ }) 1 same refl

@@ -1,0 +1,5 @@
+-- A number goes on any wire.
+use Rattle.frame_tests.proofs.wire_queue_packets.accepted.Goals as goal
+
+pub send-requires-clause-fits : goal.send-requires-clause-fits
+send-requires-clause-fits g c = c.numbered-packet.ensures c.args.wires.now

@@ -1,0 +1,30 @@
+//! Comparisons that tell of which row they are, and calls that must not fail.
+ghost use Rattle.std.specs.Prelude.{◌≡◌, Ok};
+
+use std::fmt::Debug;
+use std::process::Abort;
+
+/// Both are the same, or the test ends with both and with the row.
+pub(crate) fn same<T: PartialEq + Debug + Drop, A: Debug + Drop>(
+    rt: &impl Abort,
+    left: T,
+    right: T,
+    row: A,
+) {
+    assert_eq!(rt; left, right, "{row:?}");
+}
+
+/// What a call gave, or the test ends with its fault.
+pub(crate) fn gave<T, E: Debug + Drop>(rt: &impl Abort, answer: Result<T, E>) -> T
+    ensures { answer ≡ Ok result }
+{
+    match answer {
+        Ok(it) => it,
+        Err(fault) => panic!(rt; "{fault:?}"),
+    }
+}
+
+/// The same, where nothing needs to be known of what the call gave: that keeps what follows cheap to prove.
+pub(crate) fn must<T, E: Debug + Drop>(rt: &impl Abort, answer: Result<T, E>) -> T {
+    gave(rt, answer)
+}
