@@ -17,6 +17,7 @@ use crate::kept::Kept;
 use crate::wanted::{LOOKS, TRIES, Wanted, pause, rest};
 use crate::{BURST_TURNS, Burst, Starts};
 use base_words::{CellId, MoveKind, NodeId, Ppn, VcpuId};
+use crossbeam_utils::CachePadded;
 use guest_core::{Asked, Fate, Guest, Loaded, Ready, Resources, Turn};
 use outside_io::{Gate, GatePoint};
 use shootdown::ProcToken;
@@ -24,10 +25,10 @@ use std::alloc::{AllocError, Global};
 use std::marker::PhantomData;
 use std::sync::{Condvar, Mutex, MutexGuard, Wait};
 
-/// Guest number `G` of the run that `N` names, under its lock.
+/// Guest number `G` of the run that `N` names, under its lock, on cache lines of its own.
 #[derive(Drop)]
 pub struct GuestCell<N: Starts, const G: u8> {
-    guest: Mutex<Kept<N, G>>,
+    guest: CachePadded<Mutex<Kept<N, G>>>,
     moved: Condvar,
     wanted: Wanted,
 }
@@ -38,11 +39,11 @@ impl<N: Starts, const G: u8> GuestCell<N, G> {
         requires { IsGuestOf N.starts N.board N.shared G guest }
     {
         GuestCell {
-            guest: Mutex::new(Kept {
+            guest: CachePadded::new(Mutex::new(Kept {
                 guest,
                 moved: false,
                 of: PhantomData,
-            }),
+            })),
             moved: Condvar::new(),
             wanted: Wanted::new(),
         }
@@ -315,7 +316,7 @@ impl<N: Starts, const G: u8> GuestCell<N, G> {
             guest,
             moved: _,
             of: _,
-        } = guest.into_inner();
+        } = guest.into_inner().into_inner();
         guest
     }
 }
