@@ -1,23 +1,34 @@
 /* A plain interpreter of the guest machine, to compare speeds with: what bench/guests use, without devices but the console, and without exceptions.
  *
- *     plain MEMORY ENTRY STEPS
+ *     plain MEMORY ENTRY STEPS [THREADS]
  *
  * MEMORY is a file with the first bytes of the guest's memory, ENTRY its first address in hexadecimal. It makes STEPS steps, each with the tick of
  * coprocessor 0 and a look for interrupts, and puts out what was printed. Where an instruction isn't known or a page isn't there, it stops
- * with status 1. */
+ * with status 1. Compiled with -DTHREADS -pthread, it runs so many guests at once, each in a thread of its own. */
 #include <stdint.h>
 #include <stdio.h>
 #include <stdlib.h>
 #include <string.h>
 
-enum { PAGES = 64, PAGE = 4096, ENTRIES = 48 };
+#ifdef THREADS
+#include <pthread.h>
+#define OWN static _Thread_local
+#else
+#define OWN static
+#endif
+
+enum { PAGES = 64, PAGE = 4096, ENTRIES = 48, MOST_THREADS = 16 };
 
 struct entry { uint32_t hi, lo[2]; };
 
-static uint8_t memory[PAGES * PAGE];
-static struct entry tlb[ENTRIES];
-static uint32_t reg[32], hi, lo, pc, next_pc;
-static uint32_t index_, random_ = ENTRIES - 1, wired, entry_hi, entry_lo[2], count, compare, status, cause, epc;
+static uint8_t image[PAGES * PAGE];
+static uint32_t entry;
+static uint64_t steps;
+
+OWN uint8_t memory[PAGES * PAGE];
+OWN struct entry tlb[ENTRIES];
+OWN uint32_t reg[32], hi, lo, pc, next_pc;
+OWN uint32_t index_, random_ = ENTRIES - 1, wired, entry_hi, entry_lo[2], count, compare, status, cause, epc;
 
 static void stop(const char *why, uint32_t at)
 {
@@ -211,18 +222,53 @@ static void step(void)
     random_ = random_ <= wired ? ENTRIES - 1 : random_ - 1;
 }
 
-int main(int words, char **word)
+static void *guest(void *unused)
 {
-    if (words != 4)
-        return 2;
-    FILE *file = fopen(word[1], "rb");
-    if (file == NULL || fread(memory, 1, sizeof memory, file) == 0)
-        return 2;
+    (void)unused;
+    memcpy(memory, image, sizeof memory);
     for (uint32_t i = 0; i < ENTRIES; i++)
         tlb[i].hi = 0x80000000 + 0x2000 * i;
-    pc = strtoul(word[2], NULL, 16);
+    pc = entry;
     next_pc = pc + 4;
-    for (uint64_t steps = strtoull(word[3], NULL, 10); steps > 0; steps--)
+    for (uint64_t left = steps; left > 0; left--)
         step();
+    return NULL;
+}
+
+#ifdef THREADS
+static int guests(unsigned long threads)
+{
+    pthread_t thread[MOST_THREADS];
+    if (threads < 1 || threads > MOST_THREADS)
+        return 2;
+    for (unsigned long i = 1; i < threads; i++)
+        if (pthread_create(&thread[i], NULL, guest, NULL) != 0)
+            return 2;
+    guest(NULL);
+    for (unsigned long i = 1; i < threads; i++)
+        pthread_join(thread[i], NULL);
     return 0;
+}
+#endif
+
+int main(int words, char **word)
+{
+#ifdef THREADS
+    if (words != 5)
+        return 2;
+#else
+    if (words != 4)
+        return 2;
+#endif
+    FILE *file = fopen(word[1], "rb");
+    if (file == NULL || fread(image, 1, sizeof image, file) == 0)
+        return 2;
+    entry = strtoul(word[2], NULL, 16);
+    steps = strtoull(word[3], NULL, 10);
+#ifdef THREADS
+    return guests(strtoul(word[4], NULL, 10));
+#else
+    guest(NULL);
+    return 0;
+#endif
 }

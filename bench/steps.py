@@ -6,12 +6,14 @@
 The guests are those of guests/: sha (sums and shifts, few loads), walk (a load and a store of each of 40 pages in turn, through the TLB), stores
 (eight steps of eleven are stores) and spaces (four address spaces take turns); and loop, a jump to itself. Prints for each how many million
 steps a second it makes alone and monitored, and how many times as long a step takes under the monitor; as multiples of the speed of plain.c, where
-there is a C compiler; how many times as long 2 and 4 guests on as many processors take as one does, and as many plain.c at once, which is what
-the machine gives; and the peak memory of 16,000,000 steps of loop. With --other, a program with the same command line, that one runs in turns
+there is a C compiler; how many times as long 2 and 4 guests on as many processors take as one does, the whole run and a step beyond the first
+million of each, and the same of as many runs of one guest that begin at once and of as many plain.c in threads, which is what the machine gives
+(it takes some milliseconds until threads that begin at once have a processor each); and the peak memory of 16,000,000 steps of loop. With --other, a program with the same command line, that one runs in turns
 with the first, and its time counts as a multiple. Each is run N times (3), and the shortest counts. With --count, the host's instructions a
 step, counted by valgrind over 100,000 steps beyond the first 10,000, which other work on the machine doesn't disturb."""
 
 import argparse
+import math
 import pathlib
 import re
 import shutil
@@ -61,12 +63,13 @@ def seconds(calls, folder, times):
 
 
 def plain_in(folder):
-    """The plain interpreter, where there is a C compiler."""
+    """The plain interpreter, of one guest and of guests in threads, where there is a C compiler."""
     compiler = shutil.which("gcc") or shutil.which("cc")
     if compiler is None:
-        return None
+        return None, None
     subprocess.run([compiler, "-O2", "-o", folder / "plain", HERE / "plain.c"], check=True)
-    return folder / "plain"
+    subprocess.run([compiler, "-O2", "-DTHREADS", "-pthread", "-o", folder / "threads", HERE / "plain.c"], check=True)
+    return folder / "plain", folder / "threads"
 
 
 def flat_memory(elf):
@@ -83,16 +86,37 @@ def plain_words(plain, name, steps, folder):
     return [plain, folder / "memory", f"{entry:x}", str(steps)]
 
 
-def at_once(words, count, folder, times):
-    """The shortest time in which so many of a call end that begin at once."""
-    found = []
+def at_once(words, count, folder):
+    """The time until so many of a call that begin at once have ended."""
+    begin = time.monotonic()
+    running = [subprocess.Popen(words, cwd=folder, stdout=subprocess.DEVNULL) for _ in range(count)]
+    for it in running:
+        if it.wait() != 0:
+            raise subprocess.CalledProcessError(it.returncode, words)
+    return time.monotonic() - begin
+
+
+def disco_words(disco, guests, steps, folder):
+    """The call of disco for so many guests, each on a processor of its own."""
+    name = f"many{guests}_{steps}.toml"
+    (folder / name).write_text(description("sha.elf", guests, steps))
+    return [disco, "--machine", name]
+
+
+def report_many(kinds, folder, times):
+    """How many times as long 2 and 4 of each kind take as one: all their steps, and a step beyond the first million of each. A kind tells for how many
+    of it and how many steps of each what is called, and how often at once."""
+    first, every = 1_000_000, STEPS // 4
+    calls = {(name, many, steps): call_of(many, steps) for name, call_of in kinds.items() for many in (1, 2, 4) for steps in (first, every)}
+    taken = dict.fromkeys(calls, math.inf)
     for _ in range(times):
-        begin = time.monotonic()
-        running = [subprocess.Popen(words, cwd=folder, stdout=subprocess.DEVNULL) for _ in range(count)]
-        for it in running:
-            it.wait()
-        found.append(time.monotonic() - begin)
-    return min(found)
+        for key, (words, count) in calls.items():
+            taken[key] = min(taken[key], at_once(words, count, folder))
+    for many in (2, 4):
+        for name in kinds:
+            whole = taken[name, many, every] / taken[name, 1, every]
+            step = (taken[name, many, every] - taken[name, many, first]) / (taken[name, 1, every] - taken[name, 1, first])
+            print(f"{many} {name}: {whole:.2f} times as long as one, a step in the long run {step:.2f} times")
 
 
 def instructions(words, folder):
@@ -149,23 +173,19 @@ def main():
     programs = [it.resolve() for it in (given.disco, given.other) if it]
     with tempfile.TemporaryDirectory() as at:
         folder = pathlib.Path(at)
-        plain = plain_in(folder)
+        plain, threads = plain_in(folder)
         for name in ("loop", *GUESTS):
             text = LOOP if name == "loop" else (HERE / "guests" / f"{name}.s").read_text()
             (folder / f"{name}.elf").write_bytes(image_of(programs[0], text, folder))
             (folder / f"{name}.toml").write_text(description(f"{name}.elf", 1, STEPS))
             report(name, programs, plain, folder, given.times, given.count)
-        each = STEPS // 4
-        times = {}
-        for guests in (1, 2, 4):
-            (folder / "many.toml").write_text(description("sha.elf", guests, each))
-            times[guests] = seconds([[programs[0], "--machine", "many.toml"]], folder, given.times)[0]
-        for guests in (2, 4):
-            print(f"{guests} guests on {guests} processors: {times[guests] / times[1]:.2f} times as long as one")
-            if plain:
-                words = plain_words(plain, "sha", each, folder)
-                machine = at_once(words, guests, folder, given.times) / at_once(words, 1, folder, given.times)
-                print(f"{guests} of plain.c at once: {machine:.2f} times as long as one")
+        kinds = {
+            "guests on as many processors": lambda many, steps: (disco_words(programs[0], many, steps, folder), 1),
+            "runs of one guest at once": lambda many, steps: (disco_words(programs[0], 1, steps, folder), many),
+        }
+        if threads:
+            kinds["of plain.c in threads"] = lambda many, steps: ([*plain_words(threads, "sha", steps, folder), str(many)], 1)
+        report_many(kinds, folder, given.times)
         words = ["time", "-f", "%M", programs[0], "--machine", "loop.toml"]
         said = subprocess.run(words, cwd=folder, stdout=subprocess.DEVNULL, stderr=subprocess.PIPE, text=True)
         print(f"{STEPS:,} steps of loop: {int(said.stderr) / 1024:.1f} MB at most")

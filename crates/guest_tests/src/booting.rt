@@ -280,12 +280,25 @@ fn pair_of(two: TwoReady) -> Pair
 fn started_of(two: TwoReady) -> Started
     requires { IsReady two.first.size.vcpus two.first.size.pages two.first.size.nodes (record { table = two.table; wires = two.wires; indexes = two.caches.indexes.items }) 0 two.first.guest two.first.token }
 {
+    let TwoReady {
+        table,
+        wires,
+        caches,
+        holder: _,
+        frames: _,
+        first: ReadyGuest {
+            guest,
+            token,
+            size: _,
+        },
+        second: _,
+    } = two;
     Started {
-        guest: two.first.guest,
-        token: two.first.token,
-        table: two.table,
-        wires: two.wires,
-        caches: two.caches,
+        guest,
+        token,
+        table,
+        wires,
+        caches,
     }
 }
 

@@ -117,7 +117,7 @@ fn a_guest_runs_turn_by_turn(rt: HostRuntime) {
     let alloc = rt.alloc();
     let mut pair = two_guests(&rt, alloc, &PRINTS_A, &PRINTS_A);
     run_to_its_halt(&rt, alloc, &mut pair);
-    let (record, _) = must(&rt, pair.finish());
+    let (record, _) = pair.finish(&rt);
     let (processor, vcpu) = (ProcId(0), VcpuId(0));
     try_journal(
         &rt,
@@ -196,7 +196,7 @@ fn a_guest_that_goes_on_is_ended_by_the_plan(rt: HostRuntime) {
     let alloc = rt.alloc();
     let mut pair = two_guests(&rt, alloc, &PRINTS_A, &PRINTS_A);
     run_twice(&rt, alloc, &mut pair);
-    let (untouched, left) = must(&rt, pair.finish());
+    let (untouched, left) = pair.finish(&rt);
     try_journal(&rt, &untouched.journal, &[(Event::End(End::Budget), 1)]);
     assert!(&rt;
         untouched.console.as_slice() == b"".as_slice(),

@@ -147,7 +147,7 @@ fn a_page_moves_between_two_steps(rt: HostRuntime) {
     let alloc = rt.alloc();
     let mut pair = guests_of(&rt, alloc, ON_TWO_NODES, &USES_PAGE_1, &USES_PAGE_1);
     move_the_page(&rt, alloc, &mut pair);
-    let (record, _) = must(&rt, pair.finish());
+    let (record, _) = pair.finish(&rt);
     try_moves(&rt, &record.journal);
     assert!(&rt; record.skips.len() == 2, "what was skipped");
     assert!(&rt;

@@ -78,7 +78,7 @@ fn a_wire_that_nobody_takes_from_holds_64_packets(rt: HostRuntime) {
     let alloc = rt.alloc();
     let mut pair = two_guests(&rt, alloc, &SENDS_65, &NEVER_ARMS);
     run_to_its_end(&rt, alloc, &mut pair, Side::First);
-    let (sender, mut receiver) = must(&rt, pair.finish());
+    let (sender, mut receiver) = pair.finish(&rt);
     assert!(&rt;
         sender.console.as_slice() == b"A".as_slice(),
         "what the sender printed"
@@ -142,6 +142,6 @@ fn a_packet_comes_into_the_armed_page(rt: HostRuntime) {
     let alloc = rt.alloc();
     let mut pair = two_guests(&rt, alloc, &SENDS_65, &ARMS);
     arm_and_deliver(&rt, alloc, &mut pair);
-    let (_, receiver) = must(&rt, pair.finish());
+    let (_, receiver) = pair.finish(&rt);
     assert!(&rt; receiver.record.received.len() == 1, "one was received");
 }

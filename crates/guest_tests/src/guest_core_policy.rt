@@ -136,6 +136,6 @@ fn a_replica_comes_by_misses_and_goes_by_a_store(rt: HostRuntime) {
         &READS_AND_WRITES,
     );
     make_all_turns(&rt, alloc, &mut pair);
-    let (record, _) = must(&rt, pair.finish());
+    let (record, _) = pair.finish(&rt);
     try_replica(&rt, &record.journal);
 }

@@ -95,7 +95,7 @@ fn a_shared_frame_is_held_by_all_that_share_it(rt: HostRuntime) {
         panic!(&rt; "the cell keeps the block");
     };
     share_and_break(&rt, alloc, &mut pair, frame);
-    let (record, other) = must(&rt, pair.finish());
+    let (record, other) = pair.finish(&rt);
     assert!(&rt; record.console.as_slice() == b"ab".as_slice(), "the first");
     assert!(&rt;
         other.record.console.as_slice() == b"ab".as_slice(),

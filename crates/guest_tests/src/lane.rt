@@ -1,5 +1,5 @@
 //! A guest and the token of the processor on which it runs, without a lock. Its calls test at run time what the guest's own ask for.
-ghost use Rattle.std.specs.Prelude.{◌≡◌, ◌≢◌, ◌<◌, ◌≤◌, [], IfOk, None, Some, true, false, is_some, length};
+ghost use Rattle.std.specs.Prelude.{◌≡◌, ◌≢◌, ◌<◌, ◌≤◌, [], None, Some, true, false, is_some, length, OnOk};
 ghost use Rattle.base_words.specs.declared.events.End.TheVariants.{Budget};
 ghost use Rattle.guest_core.specs.GuestView.{AreOf, IsSameGuest, shared_by};
 ghost use Rattle.isolation_law.specs.GuestState.{due_on};
@@ -9,12 +9,14 @@ ghost use Rattle.guest_core.specs.MoveCalls.{MayAsk};
 ghost use Rattle.wire_queue.specs.PassLists.{IsListOf};
 ghost use Rattle.guest_lock.specs.Told.{shown};
 
+use crate::telling::gave;
 use base_words::{MoveKind, NodeId, Ppn, VcpuId};
 use guest_core::{Asked, Guest, GuestRecord, Loaded, Packeted, Ready, Resources, Turn};
 use guest_course::Wish;
 use guest_lock::tokens_grow;
 use shootdown::ProcToken;
 use std::alloc::{AllocError, Global};
+use std::process::Abort;
 use std::sync::Wait;
 use wire_queue::PassList;
 
@@ -61,6 +63,61 @@ fn ask_for(
     let Wish { page, kind, node } = wish;
     let asked = guest.ask_move(alloc, token, page, kind, node, resources)?;
     Ok(Some(asked))
+}
+
+/// Loads a virtual processor where the token shows none, and whether it shows one then.
+fn load_on(guest: &mut Guest, token: &mut ProcToken, vcpu: VcpuId) -> (Loaded, bool)
+    requires may { MayCall guest.old token.old }
+    requires room { 2 ≤ guest.old.room }
+    requires vcpu { vcpu.0 < guest.old.start.vcpus }
+    requires free { is_some (shown guest.old.number token.old) ≡ false }
+    ensures same { IsSameGuest guest.old guest.new }
+    ensures goes_on { guest.old.state.end ≢ Some Budget → guest.new.state.end ≢ Some Budget }
+    ensures board { token.new.board ≡ token.old.board }
+    ensures number { token.new.number ≡ token.old.number }
+    ensures shows { is_some (shown guest.old.number token.new) ≡ result.1 }
+{
+    tokens_grow();
+    guest.agree(token);
+    let loaded = guest.load_vcpu(token, vcpu);
+    (loaded, loaded == Loaded::Done)
+}
+
+/// Lets a packet come in.
+fn let_in<R: Wait>(
+    guest: &mut Guest,
+    rt: &R,
+    alloc: Global,
+    resources: &Resources,
+) -> Result<Packeted, AllocError>
+    requires { AreOf (shared_by resources.now) guest.old }
+    ensures same { IsSameGuest guest.old guest.new }
+    ensures goes_on { guest.old.state.end ≢ Some Budget → guest.new.state.end ≢ Some Budget }
+{
+    guest.make_room()?;
+    guest.packet_in(rt, alloc, resources)
+}
+
+/// Ends the move of a page where nobody waits for it.
+fn end_move(guest: &mut Guest, page: Ppn, resources: &Resources) -> Ready
+    requires { AreOf (shared_by resources.now) guest.old }
+    ensures same { IsSameGuest guest.old guest.new }
+    ensures goes_on { guest.old.state.end ≢ Some Budget → guest.new.state.end ≢ Some Budget }
+{
+    guest.finish_ready(page, resources)
+}
+
+/// Ends a guest as at the end of a plan, unless it has ended.
+fn end_by_plan(guest: &mut Guest, resources: &Resources) -> Result<(), AllocError>
+    requires { AreOf (shared_by resources.now) guest.old }
+    ensures same { IsSameGuest guest.old guest.new }
+    ensures ended { OnOk result (guest.new.state.end ≢ None) }
+{
+    if guest.end().is_none() {
+        guest.make_room()?;
+        guest.end_budget(resources);
+    }
+    Ok(())
 }
 
 /// A guest that wasn't ended for the end of the plan, and a processor's token.
@@ -110,11 +167,8 @@ impl Lane {
             return Err(AllocError);
         }
         self.guest.make_room()?;
-        self.guest.agree(&mut self.token);
-        let loaded = self.guest.load_vcpu(&mut self.token, vcpu);
-        if loaded == Loaded::Done {
-            self.loaded = true;
-        }
+        let (loaded, shows) = load_on(&mut self.guest, &mut self.token, vcpu);
+        self.loaded = shows;
         Ok(loaded)
     }
 
@@ -161,8 +215,7 @@ impl Lane {
         requires { AreOf (shared_by resources.now) self.old.guest }
         ensures { IsSameGuest self.old.guest self.new.guest }
     {
-        self.guest.make_room()?;
-        self.guest.packet_in(rt, alloc, resources)
+        let_in(&mut self.guest, rt, alloc, resources)
     }
 
     /// Asks for a migration of a page by the plan. An error is want of memory, or a page or a node that isn't there.
@@ -213,13 +266,13 @@ impl Lane {
         requires { AreOf (shared_by resources.now) self.old.guest }
         ensures { IsSameGuest self.old.guest self.new.guest }
     {
-        self.guest.finish_ready(page, resources)
+        end_move(&mut self.guest, page, resources)
     }
 
     /// What the guest leaves, and its ends of the wires. One that hasn't ended is ended as at the end of a plan.
-    pub(crate) fn finish(self, resources: &Resources) -> Result<(GuestRecord, PassList), AllocError>
+    pub(crate) fn finish(self, rt: &impl Abort, resources: &Resources) -> (GuestRecord, PassList)
         requires { AreOf (shared_by resources.now) self.guest }
-        ensures { IfOk result (λ left. IsListOf resources.now.wires.now left.1) }
+        ensures { IsListOf resources.now.wires.now result.1 }
     {
         let Lane {
             mut guest,
@@ -227,11 +280,8 @@ impl Lane {
             size: _,
             loaded: _,
         } = self;
-        if guest.end().is_none() {
-            guest.make_room()?;
-            guest.end_budget(resources);
-        }
+        gave(rt, end_by_plan(&mut guest, resources));
         let (record, _, passes, _) = guest.into_record();
-        Ok((record, passes))
+        (record, passes)
     }
 }

@@ -11,6 +11,7 @@ use block_caches::Caches;
 use frame_words::{FrameTable, Holder, Took, take};
 use guest_core::{Asked, GuestRecord, Loaded, Packeted, Ready, Resources, Turn};
 use std::alloc::{AllocError, Global};
+use std::process::Abort;
 use std::sync::Wait;
 use wire_queue::{PassList, WirePacket, Wires};
 
@@ -189,7 +190,7 @@ impl Left {
 
 impl Pair {
     /// What both guests leave. Who hasn't ended is ended as at the end of a plan.
-    pub(crate) fn finish(self) -> Result<(GuestRecord, Left), AllocError> {
+    pub(crate) fn finish(self, rt: &impl Abort) -> (GuestRecord, Left) {
         let Pair {
             table,
             wires,
@@ -204,15 +205,15 @@ impl Pair {
             wires: &wires,
             indexes: &caches.indexes,
         };
-        let (record, _) = first.finish(&resources)?;
-        let (other, passes) = second.finish(&resources)?;
-        Ok((
+        let (record, _) = first.finish(rt, &resources);
+        let (other, passes) = second.finish(rt, &resources);
+        (
             record,
             Left {
                 record: other,
                 wires,
                 passes,
             },
-        ))
+        )
     }
 }
