@@ -1,5 +1,5 @@
 -- Entries of an index one after another, and frames that are given back.
-use Rattle.std.proofs.Common.{is_some, ◌≡◌, ◌≢◌, ℕ, zero, suc, ◌+◌, ◌<◌, ◌≤◌, ◌==◌, ◌&&◌, if◌then◌else◌, Bool, true, false, cond, List, [], ◌∷◌, ◌++◌, map, drop, length, get_or, refl, sym, ap, ◌∙◌, subst, arith, length-append, Option, Some, None, eq-eqb, ne_eqb, inl, inr, ◌⊎◌}
+use Rattle.std.proofs.Common.{is_some, ◌≡◌, ◌≢◌, ℕ, zero, suc, ◌+◌, ◌<◌, ◌==◌, ◌&&◌, if◌then◌else◌, Bool, true, false, cond, List, [], ◌∷◌, ◌++◌, map, drop, length, get_or, refl, sym, ap, ◌∙◌, subst, arith, length-append, Option, Some, None, eq-eqb, inl, inr, ◌⊎◌}
 use Rattle.std.specs.Prelude.{slice_get, take, count_by}
 use Rattle.std.specs.Borrow.{Bor}
 use Rattle.std.proofs.lemmas.Bool.Decides.{eqb_tells}
@@ -14,7 +14,7 @@ use Rattle.frame_words.specs.Taking.{GivesUp}
 use Rattle.frame_words.specs.declared.view.StepKind.{StepKind}
 use Rattle.frame_words.specs.declared.view.View.{View}
 use Rattle.frame_words.proofs.Bags.{without_here, without_else}
-use Rattle.cow_disk.specs.IndexView.{Cached, copy_in, found}
+use Rattle.cow_disk.specs.IndexView.{copy_in, found}
 use Rattle.cow_disk.specs.IndexParts.{cached_of, place_used}
 use Rattle.cow_disk.specs.Giving.{is_number, HoldsFrames}
 use Rattle.cow_disk.specs.declared.index.BlockId.{BlockId}

@@ -2,7 +2,7 @@
 use Rattle.std.specs.Prelude.{◌≡◌, ◌≢◌, ℕ, ◌<◌, List, [], ◌∷◌, ◌++◌, length, slice_get, Some, None, Result, Ok, Err}
 use Rattle.std.specs.declared.alloc.AllocError.{AllocError}
 use Rattle.base_words.specs.declared.frame.SharedFrame.{SharedFrame}
-use Rattle.cow_disk.specs.IndexView.{Cached, Index, copy_in, found}
+use Rattle.cow_disk.specs.IndexView.{Index, copy_in, found}
 use Rattle.cow_disk.specs.declared.index.CacheFrame.{CacheFrame}
 use Rattle.cow_disk.specs.declared.index.Keep.{Keep}
 use Rattle.cow_disk.specs.declared.index.Keep.TheVariants as answer

@@ -1,5 +1,5 @@
 -- An index, inside: each entry lies in the frame of its place.
-use Rattle.std.specs.Prelude.{◌≡◌, List, map, take, length}
+use Rattle.std.specs.Prelude.{◌≡◌, map, take, length}
 use Rattle.base_words.specs.declared.frame.Frame.{Frame}
 use Rattle.base_words.specs.declared.frame.SharedFrame.{SharedFrame}
 use Rattle.cow_disk.specs.IndexView.{Cached, Index, copy_in}

@@ -1,5 +1,5 @@
 -- Where no address lies in two segments, no two of them share a byte.
-use Rattle.std.proofs.Common.{◌≡◌, ℕ, ◌+◌, ◌<◌, ◌≤◌, max, Bool, true, false, cond, leb, ltb, ◌&&◌, List, [], ◌∷◌, length, get_or, take, position, IsPermutation, Option, Some, None, refl, ◌∙◌, ap, arith}
+use Rattle.std.proofs.Common.{◌≡◌, ℕ, ◌+◌, ◌<◌, ◌≤◌, max, Bool, true, false, cond, leb, ltb, ◌&&◌, List, [], ◌∷◌, length, get_or, take, position, IsPermutation, Some, None, refl, ◌∙◌, ap, arith}
 use Rattle.std.specs.List.{count_by, filter_map, cons_option, position_from}
 use Rattle.std.proofs.lemmas.Bool.{false_from_ne_true, and_from, and_parts, le-leb, lt-ltb, leb-true, ltb-true}
 use Rattle.std.proofs.lemmas.Iterator.Adapters.{position_from-zero}

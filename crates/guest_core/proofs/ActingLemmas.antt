@@ -15,7 +15,7 @@ use Rattle.private_machine.specs.Devices.{disk_status}
 use Rattle.shootdown.specs.declared.notes.Note.{Note}
 use Rattle.shootdown.specs.Notes.{Token}
 use Rattle.isolation_law.specs.Content.{content}
-use Rattle.isolation_law.specs.GuestState.{GuestState, page}
+use Rattle.isolation_law.specs.GuestState.{GuestState}
 use Rattle.isolation_law.specs.StepAct.{at_hand}
 use Rattle.guest_course.specs.Acting.{act_of, page_used}
 use Rattle.guest_course.specs.Hurdles.{ActIsFree, ActNeeds}

@@ -8,7 +8,6 @@ use Rattle.base_words.specs.declared.events.Event.TheVariants.{Direct}
 use Rattle.base_words.specs.declared.ids.ProcId.{ProcId}
 use Rattle.base_words.specs.declared.ids.VcpuId.{VcpuId}
 use Rattle.cell_depend.specs.Counters.{UsesState}
-use Rattle.shootdown.specs.declared.notes.Note.{Note}
 use Rattle.shootdown.specs.declared.notes.Note.TheVariants.{Made}
 use Rattle.shootdown.specs.declared.view.SidedNote.{SidedNote}
 use Rattle.shootdown.specs.Notes.{sided}

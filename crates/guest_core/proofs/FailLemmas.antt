@@ -1,5 +1,5 @@
 -- What is kept of a guest where a cell fails.
-use Rattle.std.proofs.Common.{◌≡◌, ◌⊎◌, ◌<◌, ⊎_elim, inl, inr, ℕ, Bool, true, false, List, [], ◌∷◌, ◌++◌, Option, Some, None, is_none, length, refl, sym, ap, ◌∙◌, subst, append_assoc, ◌&&◌, ◌||◌, ◌≤◌, arith, get_or, zero, suc, ◌≢◌, ◌+◌}
+use Rattle.std.proofs.Common.{◌≡◌, ◌<◌, ⊎_elim, inl, inr, ℕ, Bool, true, false, List, [], ◌∷◌, ◌++◌, Option, Some, None, is_none, length, refl, sym, ap, ◌∙◌, subst, append_assoc, ◌&&◌, ◌||◌, ◌≤◌, arith, get_or, zero, suc, ◌≢◌, ◌+◌}
 use Rattle.std.specs.Prelude.{slice_set}
 use Rattle.std.proofs.lemmas.List.Elements.{All-cons}
 use Rattle.base_words.specs.declared.events.End.{End}
@@ -14,7 +14,7 @@ use Rattle.shootdown.specs.declared.notes.Note.TheVariants.{Made}
 use Rattle.shootdown.specs.declared.view.SidedNote.{SidedNote}
 use Rattle.shootdown.specs.Notes.{sided, Seat, Token}
 use Rattle.isolation_law.specs.CellFailure.{end_by}
-use Rattle.isolation_law.specs.CellUse.{uses, lies_in, loaded_in, used_frames}
+use Rattle.isolation_law.specs.CellUse.{lies_in, loaded_in, used_frames}
 use Rattle.isolation_law.specs.EndRows.{CellFailsIn, ended}
 use Rattle.isolation_law.specs.GuestState.{GuestState, is_dead}
 use Rattle.isolation_law.specs.Phases.{GoesOn, owed, lingers}

@@ -12,7 +12,6 @@ use Rattle.base_words.specs.declared.ids.ProcId.{ProcId}
 use Rattle.base_words.specs.declared.ids.VcpuId.{VcpuId}
 use Rattle.base_words.specs.declared.moves.By.{By}
 use Rattle.base_words.specs.declared.moves.MoveKind.{MoveKind}
-use Rattle.base_words.specs.declared.trap.DataAccess.TheVariants as at_data
 use Rattle.private_machine.specs.DeviceAct.{Act, StoresTo, ReadsDisk, WritesDisk, SendsPage, WritesEntry, NoAct}
 use Rattle.shootdown.specs.declared.view.SidedNote.{SidedNote}
 use Rattle.isolation_law.specs.EndRows.{Ends, CellFailsIn}

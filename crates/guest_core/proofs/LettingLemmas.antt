@@ -1,6 +1,6 @@
 -- The entries by which pages are let go before an end, page by page; and what is kept over them and the end.
 use Rattle.std.proofs.Common.{◌≡◌, ℕ, zero, suc, ◌+◌, ◌<◌, ◌≤◌, if◌then◌else◌, cond, ⊎_elim, Bool, true, false, List, [], ◌∷◌, ◌++◌, Option, Some, None, length, take, get_or, refl, sym, ap, ◌∙◌, subst, arith, append_assoc}
-use Rattle.std.specs.Prelude.{◌⊎◌, ◌↔◌, IsTrue, All, count_by, flat_map, is_some}
+use Rattle.std.specs.Prelude.{◌↔◌, IsTrue, All, count_by, flat_map, is_some}
 use Rattle.std.proofs.lemmas.List.Sums.{sum_by-cons}
 use Rattle.std.proofs.lemmas.List.{append-nil, length-append}
 use Rattle.std.proofs.lemmas.List.Elements.{All-nil, All-cons}

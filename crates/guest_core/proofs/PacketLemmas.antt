@@ -1,6 +1,6 @@
 -- A packet that comes to hand goes without an entry, so what becomes of it then is what becomes of the packets.
 use Rattle.std.proofs.Common.{◌≡◌, ⊎_elim, inl, inr, ℕ, Option, None, Result, Ok, Err, true, List, [], ◌∷◌, ◌++◌, length, sym, ap, ◌∙◌, subst, Bool, false, get_or}
-use Rattle.std.specs.Prelude.{◌≢◌, ◌⊎◌, IsErr}
+use Rattle.std.specs.Prelude.{◌≢◌, IsErr}
 use Rattle.std.specs.declared.alloc.AllocError.{AllocError}
 use Rattle.base_words.specs.declared.events.Event.{Event}
 use Rattle.base_words.specs.declared.events.Event.TheVariants.{PacketIn, Begin, Finish, Discard}

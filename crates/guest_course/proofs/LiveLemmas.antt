@@ -1,5 +1,5 @@
 -- What a guest uses that goes on, and so lies in no cell that has failed.
-use Rattle.std.proofs.Common.{◌≡◌, ◌⊎◌, ℕ, zero, suc, ◌≢◌, ◌<◌, false, List, [], ◌∷◌, ◌++◌, Some, Err, flat_map, length, get_or, inl, inr, ⊎_elim, refl, sym, ap, ◌∙◌, subst, arith}
+use Rattle.std.proofs.Common.{◌≡◌, ℕ, zero, suc, ◌≢◌, ◌<◌, false, List, [], ◌∷◌, ◌++◌, Some, Err, flat_map, length, get_or, inl, inr, ⊎_elim, refl, sym, ap, ◌∙◌, subst, arith}
 use Rattle.base_words.specs.Membership.{Has}
 use Rattle.private_machine.specs.Backing.{Copy, Page, copies, no_page}
 use Rattle.private_machine.specs.HardwareStep.{Dead}

@@ -1,5 +1,5 @@
 -- What an act that was left does with a page, and the operations for which pages are taken shared.
-use Rattle.std.specs.Prelude.{◌≡◌, ℕ, ◌==◌, if◌then◌else◌, List, Bool, length, Option, Some, None}
+use Rattle.std.specs.Prelude.{◌≡◌, ℕ, ◌==◌, if◌then◌else◌, List, Bool, Option, Some, None}
 use Rattle.base_words.specs.Membership.{HasNone}
 use Rattle.private_machine.specs.Backing.{Copy, TakesShared}
 use Rattle.private_machine.specs.DeviceAct.{Act, StoresTo, ReadsDisk, WritesDisk, SendsPage, WritesEntry, NoAct}

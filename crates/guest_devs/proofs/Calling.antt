@@ -1,5 +1,5 @@
 -- One turn of the loop that sets the lines of a call.
-use Rattle.std.proofs.Common.{◌≡◌, ℕ, zero, suc, ◌+◌, ◌/◌, ◌<◌, List, [], ◌∷◌, ◌++◌, Bool, false, ◌||◌, length, take, drop, set, get_or, ap, sym, ◌∙◌, refl, arith}
+use Rattle.std.proofs.Common.{◌≡◌, ℕ, zero, suc, ◌+◌, ◌/◌, ◌<◌, List, [], ◌∷◌, ◌++◌, Bool, false, ◌||◌, length, take, drop, set, get_or, ap, arith}
 use Rattle.base_words.specs.Bits.{flag}
 use Rattle.guest_devs.specs.DeviceCalls.{called_by}
 

@@ -2,7 +2,7 @@
 use Rattle.std.proofs.Common.{◌≡◌, ℕ, zero, suc, ◌/◌, List, [], ◌∷◌, Bool, true, false, ◌||◌, Option, Some, None, if◌then◌else◌, set, map, ap, sym, ◌∙◌, refl}
 use Rattle.base_words.specs.Bits.{flag}
 use Rattle.private_machine.specs.declared.vcpu.Vcpu.{Vcpu}
-use Rattle.private_machine.specs.Vcpu.{no_vcpu, with_line_on, halting}
+use Rattle.private_machine.specs.Vcpu.{with_line_on, halting}
 use Rattle.private_machine.specs.Signals.{called, changed, signalled}
 use Rattle.private_machine.specs.DevicePage.{DevicePage}
 use Rattle.private_machine.specs.DeviceRegisters.{with_status}

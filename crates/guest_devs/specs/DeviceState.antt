@@ -1,5 +1,5 @@
 -- A guest's devices as contracts see them.
-use Rattle.std.specs.Prelude.{◌≡◌, ℕ, ◌+◌, ◌-◌, ◌^◌, ◌<◌, ◌≤◌, List, Bool, false, length, drop, sum_by, min, replicate}
+use Rattle.std.specs.Prelude.{◌≡◌, ℕ, ◌+◌, ◌-◌, ◌^◌, ◌<◌, ◌≤◌, List, Bool, false, length, drop, sum_by, replicate}
 use Rattle.std.specs.Vec.{vec_len, vec_capacity}
 use Rattle.base_words.specs.declared.input.InputEntry.{InputEntry}
 use Rattle.private_machine.specs.DevicePage.{DevicePage, untouched}

@@ -1,7 +1,7 @@
 -- What stands around a guest never changes.
 use Rattle.isolation_law.specs.DirectStep.{data_noted}
 use Rattle.base_words.specs.declared.trap.DataAccess.{DataAccess}
-use Rattle.std.proofs.Common.{◌≡◌, ℕ, Bool, true, false, ⊎_elim, List, [], ◌∷◌, length, refl, ap, ◌∙◌, List, ◌∷◌}
+use Rattle.std.proofs.Common.{◌≡◌, ℕ, Bool, true, false, ⊎_elim, List, [], ◌∷◌, length, refl, ap, ◌∙◌}
 use Rattle.base_words.specs.declared.regs.Regs.{Regs}
 use Rattle.private_machine.specs.Reaching.{Reached}
 use Rattle.isolation_law.proofs.Stepping.{stored_if, accessed, told, steps-after}

@@ -1,5 +1,5 @@
 -- An end that is owed stays owed while pages are let go for it, whatever they held.
-use Rattle.std.proofs.Common.{Bool, true, false, None, ◌≡◌, ℕ, Option, Some, ap, ◌∙◌, Bool}
+use Rattle.std.proofs.Common.{Bool, true, false, None, ◌≡◌, ℕ, Option, Some, ap, ◌∙◌}
 use Rattle.std.specs.Prelude.{unwrap_or, if◌then◌else◌}
 use Rattle.isolation_law.specs.EndRows.{LetsGo}
 use Rattle.isolation_law.specs.GuestState.{GuestState}

@@ -1,5 +1,5 @@
 -- What each row does to the number of pages with a move.
-use Rattle.std.proofs.Common.{◌≡◌, ℕ, zero, suc, ◌+◌, ◌<◌, ◌==◌, cond, if◌then◌else◌, Bool, true, false, Option, Some, None, is_some, List, [], ◌∷◌, length, map, set, get_or, refl, sym, ap, ◌∙◌, arith}
+use Rattle.std.proofs.Common.{◌≡◌, ℕ, zero, suc, ◌+◌, ◌<◌, ◌==◌, cond, if◌then◌else◌, Bool, true, false, Option, Some, None, is_some, List, [], ◌∷◌, length, map, set, get_or, refl, ap, ◌∙◌, arith}
 use Rattle.std.proofs.lemmas.List.Sums.{sum_by-cons}
 use Rattle.std.specs.Prelude.{count_by}
 use Rattle.base_words.specs.declared.effect.Request.{Request}
@@ -9,10 +9,10 @@ use Rattle.base_words.specs.declared.moves.By.{By}
 use Rattle.base_words.specs.declared.moves.MoveKind.{MoveKind}
 use Rattle.base_words.specs.Memory.{with_word}
 use Rattle.base_words.specs.declared.regs.Regs.{Regs}
-use Rattle.private_machine.specs.Backing.{Change, Migrates, Replicates, Collapses, Breaks, TakesShared, GivesShared, Copy, Move, Page, stored_in, stored_through, with_bytes, with_first, no_page}
+use Rattle.private_machine.specs.Backing.{Change, Migrates, Replicates, Collapses, Breaks, TakesShared, GivesShared, Move, Page, stored_in, stored_through, with_bytes, with_first, no_page}
 use Rattle.private_machine.specs.DeviceAct.{Act, StoresTo, ReadsDisk, WritesDisk, SendsPage, WritesEntry, NoAct}
 use Rattle.private_machine.specs.DirectAccess.{data_reached}
-use Rattle.private_machine.specs.PageMove.{left_by, named_by, begun, finished, taken, acknowledged}
+use Rattle.private_machine.specs.PageMove.{left_by, named_by, begun, finished, taken}
 use Rattle.private_machine.specs.Reaching.{Reached}
 use Rattle.isolation_law.specs.DirectStep.{with_inputs, data_noted}
 use Rattle.isolation_law.specs.EndRows.{CellFailsIn, LetsGo, Ends}

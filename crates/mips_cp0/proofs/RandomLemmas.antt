@@ -1,7 +1,7 @@
 -- Random after so many steps, in closed form.
-use Rattle.std.proofs.Common.{◌≡◌, ℕ, zero, suc, ◌<◌, ◌≤◌, ◌+◌, ◌-◌, ◌*◌, ◌/◌, ◌%◌, nat_le, if◌then◌else◌, true, false, refl, sym, ap, ◌∙◌, subst, ◌⊎◌, inl, inr, eq-or-lt_of_le, mod-lt, mod-eq_of_lt, div-add-mod', arith}
+use Rattle.std.proofs.Common.{◌≡◌, ℕ, zero, suc, ◌<◌, ◌≤◌, ◌+◌, ◌-◌, ◌*◌, ◌/◌, ◌%◌, sym, ap, ◌∙◌, subst, ◌⊎◌, inl, inr, eq-or-lt_of_le, mod-lt, mod-eq_of_lt, div-add-mod', arith}
 use Rattle.std.proofs.lemmas.Nat.{mod-mul-add}
-use Rattle.base_words.specs.Coprocessor.{next_random, last_entry}
+use Rattle.base_words.specs.Coprocessor.{next_random}
 use Rattle.mips_cp0.specs.Behind.{random_after}
 
 -- above Wired it counts down

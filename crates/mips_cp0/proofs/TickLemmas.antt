@@ -1,10 +1,10 @@
 -- Steps between two comings of the timer.
-use Rattle.std.proofs.Common.{◌≡◌, ◌≢◌, ℕ, zero, suc, ◌<◌, ◌≤◌, ◌+◌, ◌-◌, ◌==◌, if◌then◌else◌, true, false, refl, sym, ap, ◌∙◌, subst, ne_eqb, arith}
+use Rattle.std.proofs.Common.{◌≡◌, ◌≢◌, ℕ, zero, suc, ◌<◌, ◌-◌, if◌then◌else◌, true, false, refl, sym, ap, ◌∙◌, ne_eqb, arith}
 use Rattle.base_words.specs.declared.coprocessor.Cp0Registers.{Cp0Registers}
 use Rattle.base_words.specs.declared.coprocessor.Cause.{Cause as CauseFields}
 use Rattle.base_words.specs.declared.coprocessor.Status.{Status as StatusFields}
 use Rattle.base_words.specs.Fields.{sum}
-use Rattle.base_words.specs.Coprocessor.{ticked, with_timer, next_random, interrupts}
+use Rattle.base_words.specs.Coprocessor.{ticked, with_timer, interrupts}
 use Rattle.mips_cp0.specs.Behind.{random_after, later, Meets}
 use Rattle.mips_cp0.specs.Quiet.{ticked_often, IsQuiet}
 

@@ -1,5 +1,5 @@
 -- What becomes of a packet that was taken from a wire.
-use Rattle.std.specs.Prelude.{◌≡◌, ℕ, ◌<◌, List, Bool, Option, Some, None}
+use Rattle.std.specs.Prelude.{◌≡◌, ℕ, ◌<◌, List, Bool, Some, None}
 use Rattle.base_words.specs.Limits.{most_cells}
 use Rattle.base_words.specs.Membership.{IsMember}
 use Rattle.frame_words.specs.FrameWords.{frame_word}

@@ -1,4 +1,4 @@
-use Rattle.std.proofs.Common.{◌<◌, List, take, map, sym, subst}
+use Rattle.std.proofs.Common.{◌<◌, List, take, sym, subst}
 use Rattle.std.specs.Prelude.{All}
 use Rattle.std.proofs.lemmas.List.Elements.{All-map, All-take, All-weaker}
 use Rattle.machine_desc.specs.Bounds.{IsGuest}

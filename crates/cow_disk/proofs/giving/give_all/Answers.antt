@@ -1,4 +1,3 @@
-use Rattle.std.proofs.Common.{rules}
 use Rattle.cow_disk.specs.declared.index.CacheFrame.{CacheFrame}
 use Rattle.cow_disk.proofs.giving.give_all.Goals as goal
 

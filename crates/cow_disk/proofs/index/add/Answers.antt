@@ -1,4 +1,4 @@
-use Rattle.std.proofs.Common.{◌≡◌, ◌∙◌, refl}
+use Rattle.std.proofs.Common.{◌∙◌, refl}
 use Rattle.indexmap.proofs.CallerLemmas.{insert_entry-new}
 use Rattle.cow_disk.proofs.IndexLemmas.{absent-as}
 use Rattle.cow_disk.proofs.index.add.Goals as goal

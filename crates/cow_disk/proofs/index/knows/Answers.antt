@@ -1,4 +1,4 @@
-use Rattle.std.proofs.Common.{◌≡◌, ap, ◌∙◌, refl, is_some}
+use Rattle.std.proofs.Common.{◌∙◌, refl}
 use Rattle.cow_disk.proofs.IndexLemmas.{known-as}
 use Rattle.cow_disk.proofs.index.knows.Goals as goal
 

@@ -1,4 +1,4 @@
-use Rattle.std.proofs.Common.{◌≡◌, ◌*◌, ◌<◌, length, sym, subst, arith}
+use Rattle.std.proofs.Common.{◌*◌, ◌<◌, length, sym, subst, arith}
 use Rattle.wire_queue.specs.Between.{line_between}
 use Rattle.wire_queue.specs.Packets.{packet_of}
 use Rattle.wire_queue.specs.declared.terms.Terms.{Terms}

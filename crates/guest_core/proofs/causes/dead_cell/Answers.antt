@@ -1,5 +1,5 @@
 -- The processor's own cell has failed, or that of the node, or neither.
-use Rattle.std.proofs.Common.{ℕ, true, Some, sym, ap, ◌∙◌}
+use Rattle.std.proofs.Common.{ℕ, Some, sym, ap, ◌∙◌}
 use Rattle.isolation_law.specs.GuestState.{is_dead}
 use Rattle.isolation_law.specs.Parts.{DeadCell}
 use Rattle.guest_course.specs.CourseView.{state_of}

@@ -2,7 +2,6 @@
 use Rattle.std.proofs.Common.{◌≡◌, ℕ, ◌+◌, ◌<◌, ◌++◌, Bool, true, false, List, length, take, sym, ap, ◌∙◌, subst, arith}
 use Rattle.std.proofs.lemmas.List.{append-nil, append_assoc, length-append}
 use Rattle.base_words.specs.declared.events.Event.{Event}
-use Rattle.isolation_law.specs.EndRows.{is_taking}
 use Rattle.guest_course.specs.EndCalls.{letting_go}
 use Rattle.guest_core.proofs.LettingLemmas.{let-at, letting-next, letting-room, taking-told}
 use Rattle.guest_core.proofs.releasing.let_go.Goals as goal

@@ -1,7 +1,7 @@
 -- The timer comes.
-use Rattle.std.proofs.Common.{rules, ◌≡◌, ◌==◌, if◌then◌else◌, true, ap, sym, ◌∙◌, eq-eqb}
+use Rattle.std.proofs.Common.{if◌then◌else◌, true, ap, sym, ◌∙◌, eq-eqb}
 use Rattle.base_words.specs.Fields.{sum}
-use Rattle.base_words.specs.Coprocessor.{ticked, with_timer, next_random}
+use Rattle.base_words.specs.Coprocessor.{with_timer, next_random}
 use Rattle.mips_cp0.proofs.coprocessor.meet.Goals as goal
 
 pub returns : goal.returns

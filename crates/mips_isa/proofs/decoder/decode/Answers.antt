@@ -1,6 +1,5 @@
 -- The map has opcode 0 at its first place alone.
-use Rattle.std.proofs.Common.{◌≡◌, ◌<◌, ◌/◌, ℕ, sym, ap, ◌∙◌, subst, slice_index_or, arith}
-use Rattle.base_words.specs.declared.instr.Primary.{Primary}
+use Rattle.std.proofs.Common.{◌≡◌, ◌<◌, ◌/◌, sym, ap, ◌∙◌, slice_index_or, arith}
 use Rattle.base_words.specs.declared.instr.Primary.TheVariants as primary
 use Rattle.base_words.specs.OpcodeMap.{primary_map}
 use Rattle.mips_isa.specs.PlaceCodes.{primary_code}

@@ -1,5 +1,5 @@
 -- Each cell has no frames in the end, and as many cells are counted.
-use Rattle.std.proofs.Common.{◌≡◌, ℕ, ◌≤◌, List, ◌++◌, length, map, take, drop, get_or, set, ap, ◌∙◌, arith}
+use Rattle.std.proofs.Common.{◌≡◌, ℕ, ◌≤◌, List, ◌++◌, length, map, take, drop, get_or, ap, ◌∙◌, arith}
 use Rattle.std.specs.Vec.{with_items}
 use Rattle.std.proofs.lemmas.List.{take_all, drop_all, append-nil, get_or_default, length-map, with_items_is}
 use Rattle.std.proofs.lemmas.List.Edits.{map_over_more}

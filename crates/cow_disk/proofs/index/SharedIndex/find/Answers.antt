@@ -1,4 +1,4 @@
-use Rattle.std.proofs.Common.{◌≡◌, ap, ◌∙◌, refl}
+use Rattle.std.proofs.Common.{ap, ◌∙◌, refl}
 use Rattle.std.specs.Option.{option_map}
 use Rattle.cow_disk.specs.IndexView.{Index, copy_in, found}
 use Rattle.cow_disk.proofs.IndexLemmas.{looked-up, lent}

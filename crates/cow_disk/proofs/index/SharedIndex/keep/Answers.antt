@@ -1,4 +1,4 @@
-use Rattle.std.proofs.Common.{rules, ◌≡◌, ◌<◌, map, take, length, slice_get, Some, None, ap, sym, subst, ◌∙◌, refl, is_some, true≢false, arith, List, [], ◌∷◌, ◌++◌}
+use Rattle.std.proofs.Common.{rules, ◌≡◌, ◌<◌, map, take, length, slice_get, Some, ap, sym, subst, ◌∙◌, is_some, true≢false, arith, List, [], ◌∷◌, ◌++◌}
 use Rattle.std.proofs.lemmas.List.{length-map, map-append}
 use Rattle.private_machine.specs.Backing.{Copy}
 use Rattle.cow_disk.specs.IndexView.{Index, Cached, copy_in, found}

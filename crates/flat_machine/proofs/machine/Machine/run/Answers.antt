@@ -1,5 +1,5 @@
 -- A step is one more.
-use Rattle.std.proofs.Common.{replicate, ap, sym, ◌∙◌}
+use Rattle.std.proofs.Common.{ap, sym, ◌∙◌}
 use Rattle.base_words.specs.declared.events.OwnEvent.TheVariants.{Step}
 use Rattle.private_machine.specs.OwnStep.{own_step}
 use Rattle.flat_machine.specs.FlatView.{machine_of}

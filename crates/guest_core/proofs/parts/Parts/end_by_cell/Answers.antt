@@ -7,7 +7,6 @@ use Rattle.base_words.specs.declared.events.Event.{Event}
 use Rattle.base_words.specs.declared.events.Event.TheVariants.{CellFails, End as Ending}
 use Rattle.shootdown.specs.declared.notes.Note.TheVariants.{Made, Ended}
 use Rattle.shootdown.specs.Notes.{Seat, sided}
-use Rattle.isolation_law.specs.EndRows.{ended}
 use Rattle.isolation_law.specs.GuestState.{GuestState, is_dead}
 use Rattle.guest_course.specs.CourseView.{state_of}
 use Rattle.guest_course.specs.EndCalls.{letting_go}

@@ -1,15 +1,11 @@
 -- The guest goes on, and is kept.
-use Rattle.std.proofs.Common.{rules, ◌≡◌, ◌<◌, ℕ, List, [], ◌∷◌, ◌++◌, None, Some, true, false, refl, sym, ap, ◌∙◌, subst, inl, inr, arith}
-use Rattle.base_words.specs.declared.events.End.{End}
+use Rattle.std.proofs.Common.{rules, ◌<◌, ℕ, refl, sym, subst, inl}
 use Rattle.base_words.specs.declared.events.Event.TheVariants.{CellFails}
-use Rattle.shootdown.specs.declared.notes.Note.TheVariants.{Made, Ended, Dead}
-use Rattle.shootdown.specs.Notes.{Seat}
+use Rattle.shootdown.specs.declared.notes.Note.TheVariants.{Made, Dead}
 use Rattle.isolation_law.specs.EndRows.{CellFailsIn}
-use Rattle.isolation_law.specs.GuestState.{GuestState, is_dead}
 use Rattle.isolation_law.specs.Phases.{GoesOn}
 use Rattle.guest_course.specs.CourseView.{state_of}
 use Rattle.guest_course.specs.FailCalls.{MayOutlive}
-use Rattle.guest_core.specs.Kept.{Kept, IsKept}
 use Rattle.guest_core.proofs.FailLemmas.{Beyond, kept-beyond, room-failing, on-outlives, dead-then, two-notes}
 use Rattle.guest_core.proofs.EnterProofs.{one-row}
 use Rattle.guest_core.proofs.parts.Parts.outlive.Goals as goal

@@ -1,5 +1,5 @@
 -- The entry that is made for a trap is its row, and the guest is kept.
-use Rattle.std.proofs.Common.{◌≡◌, inl, ℕ, ◌+◌, ◌<◌, ◌++◌, [], ◌∷◌, if◌then◌else◌, Bool, true, false, List, Ok, Some, None, length, map, refl, sym, ap, ◌∙◌, subst, arith}
+use Rattle.std.proofs.Common.{◌≡◌, inl, ℕ, ◌<◌, ◌++◌, [], ◌∷◌, if◌then◌else◌, Bool, true, false, List, Ok, Some, None, length, map, refl, sym, ap, ◌∙◌, subst, arith}
 use Rattle.std.specs.Global.{Vec}
 use Rattle.base_words.specs.declared.ids.CellId.{CellId}
 use Rattle.base_words.specs.declared.events.Event.{Event}
@@ -9,7 +9,7 @@ use Rattle.private_machine.specs.DeviceAct.{StoresTo}
 use Rattle.shootdown.specs.declared.notes.Note.{Note}
 use Rattle.shootdown.specs.declared.notes.Note.TheVariants.{Made}
 use Rattle.shootdown.specs.Notes.{Seat, Token, sided}
-use Rattle.isolation_law.specs.GuestState.{GuestState, page}
+use Rattle.isolation_law.specs.GuestState.{GuestState}
 use Rattle.base_words.specs.declared.events.End.TheVariants.{Halted as ByHalt}
 use Rattle.isolation_law.specs.Phases.{all_halted, GoesOn}
 use Rattle.isolation_law.specs.RefillRow.{Refills}

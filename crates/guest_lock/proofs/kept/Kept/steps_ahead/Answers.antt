@@ -7,7 +7,7 @@ use Rattle.shootdown.specs.Notes.{Token, with_side}
 use Rattle.isolation_law.specs.Start.{Boot}
 use Rattle.guest_core.specs.GuestView.{Monitored}
 use Rattle.guest_core.specs.GuestCalls.{processor_of, loaded_on}
-use Rattle.guest_lock.specs.Told.{with_told, vcpu_shown, AreInStep}
+use Rattle.guest_lock.specs.Told.{with_told, AreInStep}
 use Rattle.guest_lock.proofs.BurstLemmas.{Bursts-steps, loaded-shown}
 use Rattle.guest_lock.proofs.Notes.{in_step-learns}
 use Rattle.guest_lock.proofs.kept.Kept.steps_ahead.Goals as goal

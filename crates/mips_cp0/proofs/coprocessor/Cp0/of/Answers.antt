@@ -1,5 +1,5 @@
 -- No step was done since.
-use Rattle.std.proofs.Common.{rules, ◌≡◌, ◌<◌, ◌+◌, ap, ◌∙◌, arith}
+use Rattle.std.proofs.Common.{rules, ◌≡◌, ◌<◌, ap, arith}
 use Rattle.base_words.specs.Fields.{sum}
 use Rattle.mips_cp0.proofs.coprocessor.Cp0.of.Goals as goal
 

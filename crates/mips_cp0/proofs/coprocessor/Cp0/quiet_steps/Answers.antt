@@ -1,5 +1,5 @@
 -- As many as are left.
-use Rattle.std.proofs.Common.{rules, ◌≡◌, ◌-◌, false, sym, ap, ◌∙◌, subst}
+use Rattle.std.proofs.Common.{rules, ◌≡◌, ◌-◌, false, ap, ◌∙◌, subst}
 use Rattle.base_words.specs.Coprocessor.{interrupts}
 use Rattle.mips_cp0.specs.Behind.{later}
 use Rattle.mips_cp0.specs.Quiet.{IsQuiet}

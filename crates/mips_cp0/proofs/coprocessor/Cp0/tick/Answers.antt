@@ -1,5 +1,5 @@
 -- The timer doesn't come yet.
-use Rattle.std.proofs.Common.{rules, ◌≡◌, ◌≢◌, ◌<◌, ◌+◌, ℕ, suc, sym, ap, ◌∙◌, subst, arith}
+use Rattle.std.proofs.Common.{◌≡◌, ◌<◌, ◌+◌, ℕ, suc, ap, ◌∙◌, arith}
 use Rattle.base_words.specs.Coprocessor.{ticked}
 use Rattle.mips_cp0.specs.Behind.{later}
 use Rattle.mips_cp0.proofs.TickLemmas.{tick-before}
