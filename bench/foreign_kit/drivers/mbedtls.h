@@ -1,0 +1,25 @@
+/* What of Mbed TLS is built. */
+#define MBEDTLS_SELF_TEST
+#define MBEDTLS_PLATFORM_C
+#define MBEDTLS_MD2_C
+#define MBEDTLS_MD4_C
+#define MBEDTLS_MD5_C
+#define MBEDTLS_RIPEMD160_C
+#define MBEDTLS_SHA256_C
+#define MBEDTLS_CHACHA20_C
+#define MBEDTLS_POLY1305_C
+#define MBEDTLS_CHACHAPOLY_C
+#define MBEDTLS_BASE64_C
+#define MBEDTLS_BIGNUM_C
+#define MBEDTLS_AES_C
+#define MBEDTLS_CIPHER_C
+#define MBEDTLS_CIPHER_MODE_CBC
+#define MBEDTLS_GCM_C
+#define MBEDTLS_CCM_C
+#define MBEDTLS_CMAC_C
+#define MBEDTLS_NIST_KW_C
+#define MBEDTLS_XTEA_C
+#define MBEDTLS_ARC4_C
+#define MBEDTLS_OID_C
+#define MBEDTLS_MD_C
+#include "mbedtls/check_config.h"
