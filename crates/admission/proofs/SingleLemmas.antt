@@ -39,6 +39,8 @@ single-accepted raw steps few = record {
     few_vcpus = omega arith;
     home = omega arith;
     disk = tt;
+    some_profile = omega arith;
+    few_profiles = omega arith;
   });
   policy = record { migrate = omega arith; replicate = omega arith };
   few_items = omega arith;

@@ -98,7 +98,7 @@ made_run seed = Monitored (generated 4 50000) (made_starts seed) true
 -- a guest of the command line has 16 pages and one virtual processor, on one node of 16 frames with one processor; its image is a raw
 -- file or an ELF file, whose name isn't kept
 abbrev pub single_guest : Bool → GuestSpec
-single_guest raw = record { image = codes "guest"; raw = raw; pages = 16; vcpus = 1; node = record { 0 = 0 }; disk = None }
+single_guest raw = record { image = codes "guest"; raw = raw; pages = 16; vcpus = 1; node = record { 0 = 0 }; disk = None; profile = 1 }
 
 abbrev pub single_items : ℕ → List Item
 single_items steps = Run (record { 0 = 0 }) (record { 0 = 0 }) (record { 0 = 0 }) steps ∷ []

@@ -38,6 +38,7 @@ fn single_guest(alloc: Global, raw: bool) -> Result<GuestSpec, AllocError>
         vcpus: 1,
         node: NodeId(0),
         disk: None,
+        profile: 1,
     })
 }
 

@@ -1,10 +1,12 @@
--- Which cells a guest uses: counted from the frames that it holds and the processors on which it runs.
+-- Which cells a guest uses: counted from the frames by which it does, the masters, the targets of moves and the spares, and from
+-- the processors on which it runs. A replica ties a guest to no cell.
 use Rattle.std.specs.Prelude.{◌≡◌, ◌⊎◌, ℕ, ◌+◌, ◌/◌, ◌==◌, Bool, true, false, List, Contains, Option, Some, None, slice_get, count_by}
 use Rattle.base_words.specs.declared.frame.Shape.{Shape}
 use Rattle.base_words.specs.declared.ids.CellId.{CellId}
 use Rattle.base_words.specs.declared.ids.FrameNo.{FrameNo}
 
--- what a guest holds and where it runs: its frames, and the cells of the processors with a loaded virtual processor of it
+-- by what a guest uses cells: the frames of its masters, targets and spares, and the cells of the processors with a loaded virtual
+-- processor of it
 pub record Rows : Type 0 where
   pub frames : List FrameNo
   pub loaded : List CellId
@@ -13,7 +15,7 @@ pub record Rows : Type 0 where
 abbrev pub cell_of : Shape → FrameNo → Option CellId
 cell_of shape frame = slice_get shape.cells (frame.0 / shape.frames)
 
--- A guest uses a cell where a frame that it holds lies on a node of the cell, or a virtual processor of it is loaded on a
+-- A guest uses a cell where one of these frames lies on a node of the cell, or a virtual processor of it is loaded on a
 -- processor of the cell.
 abbrev pub IsUsed : Shape → Rows → CellId → Type 0
 IsUsed shape rows cell = ((frame : FrameNo) × Contains rows.frames frame × (cell_of shape frame ≡ Some cell)) ⊎ Contains rows.loaded cell

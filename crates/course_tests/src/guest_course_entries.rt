@@ -94,6 +94,7 @@ pub(crate) fn around(rt: &impl Abort, alloc: Global) -> Around
     Around {
         number: GuestId(0),
         disk: 0,
+        profile: 1,
         home: NodeId(0),
         site: Site {
             shape: Shape {
@@ -130,6 +131,7 @@ fn enter(course: &mut Course, vcpu: VcpuId) -> (u8, Option<FrameNo>)
             Entry::Left(_) => (5, None),
             Entry::Waits(_) => (6, None),
             Entry::Needs(..) => (7, None),
+            Entry::Lost(_) => (8, None),
         },
     }
 }

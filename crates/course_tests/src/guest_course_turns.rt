@@ -290,6 +290,10 @@ fn enter(rt: &impl Abort, alloc: Global, course: &mut Course, vcpu: VcpuId) -> D
                 course.begin_needed(PROCESSOR, vcpu, page, kind);
                 Did::Begun(page, kind)
             }
+            Entry::Lost(page) => {
+                course.begin_lost(PROCESSOR, vcpu, page);
+                Did::Begun(page, MoveKind::Collapse)
+            }
         },
     }
 }

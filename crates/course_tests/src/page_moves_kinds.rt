@@ -4,7 +4,7 @@ use crate::page_moves_rig::{
     is_refused, is_taken, lets_go, maps, shared, stores, table, takes, tells,
 };
 use crate::telling::{gave, same};
-use base_words::{FrameNo, MoveKind, NodeId, Ppn, ProcId};
+use base_words::{CellId, CellSet, FrameNo, MoveKind, NodeId, Ppn, ProcId};
 use page_moves::{first_ready, first_waiting};
 use pmap_table::Pmap;
 use shootdown::tokens;
@@ -92,14 +92,43 @@ fn a_node_reaches_the_nearest_frame(rt: HostRuntime) {
     let alloc = rt.alloc();
     let pmap = replicated(&rt, alloc);
     let shape = four_nodes(&rt, alloc);
-    for (node, number) in [(0, 5), (1, 20), (2, 40), (3, 5)] {
+    let none = CellSet::empty();
+    let second = none.with(CellId(1));
+    // the master is on node 0, the replicas are on nodes 1 and 2, and nodes 2 and 3 are the second cell
+    let rows = [
+        (0, none, 5),
+        (1, none, 20),
+        (2, none, 40),
+        (3, none, 40),
+        (0, second, 5),
+        (1, second, 20),
+        (2, second, 20),
+        (3, second, 20),
+    ];
+    for (node, dead, number) in rows {
         assert!(rt; 0 < pmap.len());
-        let frame = pmap.nearest(Ppn(0), NodeId(node), &shape);
+        let frame = pmap.nearest(Ppn(0), NodeId(node), &shape, dead);
         same(&rt, frame, FrameNo(number), ("node", node));
         assert!(rt;
             pmap.word_of(Ppn(0), frame, 0) == 5,
             "each replica is a copy of the page"
         );
+    }
+}
+
+/// Of two frames as near the one on the lower node is taken, and a node has a frame just where one lies on it.
+#[test]
+fn of_frames_as_near_the_lower_nodes_is_taken(rt: HostRuntime) {
+    let alloc = rt.alloc();
+    let mut pmap = table(&rt, alloc);
+    begins(&rt, &mut pmap, MoveKind::Replicate, frame(&rt, alloc, 40));
+    finishes(&rt, &mut pmap, &[]);
+    let shape = four_nodes(&rt, alloc);
+    for (node, number, is_there) in [(0, 5, true), (1, 5, false), (2, 40, true), (3, 40, false)] {
+        assert!(rt; 0 < pmap.len());
+        let frame = pmap.nearest(Ppn(0), NodeId(node), &shape, CellSet::empty());
+        same(&rt, frame, FrameNo(number), ("node", node));
+        assert!(rt; pmap.is_on(Ppn(0), NodeId(node), &shape) == is_there);
     }
 }
 

@@ -107,7 +107,7 @@ const FOUR: Change<'static> = ("pages = 16", "pages = 4");
 
 const HOME_ON_NODE_1: Change<'static> = ("node = 0\n", "node = 1\n");
 
-/// Whom a failure ends: who has a frame there, borrowed or as a replica, and no one else. Who ended before stays as it ended.
+/// Whom a failure ends: who has a frame there, its own or borrowed, but for a replica, and no one else. Who ended before stays as it ended.
 #[test]
 fn a_failed_cell_ends_who_uses_it(rt: HostRuntime) {
     let cases = [
@@ -137,7 +137,7 @@ fn a_failed_cell_ends_who_uses_it(rt: HostRuntime) {
         },
         Case {
             changes: &[TWO_CELLS, REPLICA_THEN_CELL_1],
-            output: "guest 0 console 0\n\nend cell 1\nsums steps 0 refills 0 moves 1 skips 0 breaks 0 shared 0 received 0 discarded 0\nfailure cell 1 ended 0\n",
+            output: "guest 0 console 1\nA\nend halted\nsums steps 5 refills 1 moves 1 skips 0 breaks 0 shared 0 received 0 discarded 0\nfailure cell 1 ended none\n",
             ..machine()
         },
         Case {
@@ -425,4 +425,67 @@ fn slices_and_failures_are_told(rt: HostRuntime) {
     assert!(rt; slices[0].item == 1 && slices[0].steps == 0);
     assert!(rt; slices[0].cause == Cut::CellFailed(CellId(0)));
     assert!(rt; slices[1].item == 2 && slices[1].steps == 0 && slices[1].cause == Cut::Whole);
+}
+
+/// LUI 8, C000; LW 9, 1000(8); LW 9, 1000(8); LW 9, 1000(8).
+const READS_PAGE_1: [u32; 4] = [0x3C08_C000, 0x8D09_1000, 0x8D09_1000, 0x8D09_1000];
+
+/// The guest's only tie to the second of three cells is a replica there, which is the nearest frame for the processor on the third node.
+const LOSES_A_REPLICA: Run<'static> = Run {
+    text: "[machine]
+nodes = 3
+frames = 8
+processors = [2]
+[[cell]]
+nodes = [0]
+[[cell]]
+nodes = [1]
+lend = 1
+[[cell]]
+nodes = [2]
+[[guest]]
+image = \"0\"
+form = \"raw\"
+pages = 4
+vcpus = 1
+node = 0
+[[work]]
+act = \"move\"
+processor = 0
+guest = 0
+page = 1
+kind = \"replicate\"
+node = 1
+[[work]]
+act = \"run\"
+processor = 0
+guest = 0
+vcpu = 0
+steps = 2
+[[work]]
+act = \"fail\"
+processor = 0
+cell = 1
+[[work]]
+act = \"run\"
+processor = 0
+guest = 0
+vcpu = 0
+steps = 2
+",
+    programs: &[&READS_PAGE_1],
+    output: "guest 0 console 0\n\nend budget\nsums steps 4 refills 4 moves 1 skips 0 breaks 0 shared 0 received 0 discarded 0\nfailure cell 1 ended none\n",
+};
+
+/// A guest whose only tie to a failed cell is a replica goes on.
+#[test]
+fn a_replica_alone_is_no_use_of_a_cell(rt: HostRuntime) {
+    let out = try_run(&rt, rt.alloc(), &LOSES_A_REPLICA);
+    let slices = out.slices.as_slice();
+    assert!(rt; slices.len() == 2);
+    assert!(rt; slices[0].steps == 2 && slices[0].cause == Cut::Whole);
+    assert!(rt; slices[1].steps == 2 && slices[1].cause == Cut::Whole);
+    let failures = out.failures.as_slice();
+    assert!(rt; failures.len() == 1);
+    assert!(rt; failures[0].ended.is_empty());
 }

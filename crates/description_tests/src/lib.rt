@@ -12,6 +12,8 @@ mod moves;
 #[cfg(test)]
 mod policy;
 #[cfg(test)]
+mod profiles;
+#[cfg(test)]
 mod record;
 #[cfg(test)]
 mod refusals;

@@ -1,5 +1,5 @@
 -- A guest keeps its number of virtual processors.
-use Rattle.std.proofs.Common.{◌≡◌, ℕ, ◌==◌, ◌/◌, ◌%◌, List, [], ◌∷◌, length, Bool, true, false, if◌then◌else◌, slice_index_or, Option, Some, None, Result, Ok, Err, arith, ◌∙◌, refl}
+use Rattle.std.proofs.Common.{◌≡◌, ℕ, ◌==◌, ◌/◌, ◌%◌, List, [], ◌∷◌, length, Bool, true, false, if◌then◌else◌, slice_index_or, Option, Some, None, Result, Ok, Err, arith, ◌∙◌, refl, subst}
 use Rattle.std.proofs.lemmas.List.{length-set, length-map}
 use Rattle.base_words.specs.declared.regs.Regs.{Regs}
 use Rattle.base_words.specs.declared.exception.Exception.{Exception}
@@ -24,13 +24,16 @@ use Rattle.private_machine.specs.declared.vcpu.Vcpu.{Vcpu}
 use Rattle.private_machine.specs.Vcpu.{with_registers, with_cp0, with_link, with_line_on, raising, ticking, system_done}
 use Rattle.private_machine.specs.DevicePage.{transfer_of, device_register}
 use Rattle.private_machine.specs.DeviceRegisters.{register_taken}
-use Rattle.private_machine.specs.PrivateMachine.{PrivateMachine, vcpu, on_vcpu, with_devices, input_waits, left}
+use Rattle.private_machine.specs.PrivateMachine.{PrivateMachine, vcpu, on_vcpu, with_devices, input_waits, left, is_open}
+use Rattle.private_machine.specs.RegisterPage.{redirected}
 use Rattle.private_machine.specs.Links.{line_of, is_linked, word_around, unlinked_page, page_filled, written}
 use Rattle.private_machine.specs.Signals.{called, signalled}
 use Rattle.private_machine.specs.Devices.{disk_status, disk_read, disk_written, transferred, commanded, may_send, sending, device_done}
 use Rattle.private_machine.specs.Access.{device_loaded, device_stored, loaded_from_device, stored_to_device, loaded, stored, linked_load, if_linked, conditional_store}
 use Rattle.private_machine.specs.OwnStep.{is_usable, usable, fetched, answered, executed, decided, attempted, settled, acted, joined, own_step, input_joined, made}
 use Rattle.private_machine.specs.Packet.{came_into, own_packet}
+use Rattle.mips_alu.specs.Execution.{passed}
+use Rattle.flat_machine.specs.Attempts.{requested}
 use Rattle.flat_machine.proofs.SoundLemmas.{length-unlinked_others}
 
 -- a machine has as many virtual processors as another; so has one to which an attempt leads
@@ -174,9 +177,12 @@ answered-keeps m v regs (asks.ReadCp0 number target) = length-set m.vcpus v _
 answered-keeps m v regs (asks.WriteCp0 number value) = twice-count m v (with_registers regs) (λ c. with_cp0 (writes c.cp0 (register_at number) value) c)
 answered-keeps m v regs (asks.System op) = twice-count m v (with_registers regs) (system_done op)
 
+pub requested-count : (m n : PrivateMachine) (v : ℕ) (request : Request) → requested m v request ≡ Ok n → Alike m n
+requested-count m n v request is = subst (Keeps m) is (answered-keeps m v (passed request (vcpu m v).registers) request)
+
 executed-keeps : (m : PrivateMachine) (v : ℕ) (does : Result Effect Exception) → Keeps m (executed m v does)
 executed-keeps m v (Err x) = tt
-executed-keeps m v (Ok does) = answered-keeps m v does.registers does.request
+executed-keeps m v (Ok does) = answered-keeps m v does.registers (redirected (is_open m v) does.request)
 
 decided-keeps : (m : PrivateMachine) (v : ℕ) (word : Result ℕ Exception) → Keeps m (decided m v word)
 decided-keeps m v (Err x) = tt

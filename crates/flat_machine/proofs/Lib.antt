@@ -4,4 +4,7 @@ pub mod DiskLemmas
 pub mod CountLemmas
 pub mod BootLemmas
 pub mod PageLemmas
+pub mod AskedLemmas
 pub mod WindowLemmas
+pub mod PlainLemmas
+pub mod StretchLemmas

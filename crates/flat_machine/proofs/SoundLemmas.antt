@@ -8,6 +8,7 @@ use Rattle.private_machine.specs.Vcpu.{no_vcpu}
 use Rattle.private_machine.specs.Showing.{shown_by}
 use Rattle.private_machine.specs.Links.{unlinked, unlinked_page, unlinked_others}
 use Rattle.flat_machine.specs.declared.machine.Machine.{Machine}
+use Rattle.page_ops.specs.declared.memo.Memo.{Memo}
 use Rattle.flat_machine.specs.FlatView.{IsSound}
 
 -- when one of its virtual processors becomes another that shows the same
@@ -17,6 +18,18 @@ IsSound-with_item m v new kept sound is same = record {
   pages = sound.pages;
   transfers = sound.transfers ∙ sym (length-set m.vcpus.items v new);
   agree = map-set_same shown_by m.vcpus.items v new kept (same ∙ ap shown_by is) ∙ sound.agree;
+  armed = sound.armed;
+  empty = sound.empty;
+  room = sound.room;
+}
+
+-- whatever words were met
+pub IsSound-memo : (m : Machine) (memo : Memo) → IsSound m → IsSound (record m { memo = memo })
+IsSound-memo m memo sound = record {
+  whole = sound.whole;
+  pages = sound.pages;
+  transfers = sound.transfers;
+  agree = sound.agree;
   armed = sound.armed;
   empty = sound.empty;
   room = sound.room;

@@ -26,6 +26,7 @@ machine_of m = record {
   vcpus = m.vcpus.items;
   devices = m.devs.state.page;
   disk = blocks_of m.disk.items;
+  register_page = m.register_page;
 }
 
 -- there is room for one byte on the console and for one packet of 4096 bytes

@@ -1,3 +1,4 @@
 pub mod FlatView
 pub mod Attempts
 pub mod Windows
+pub mod Stretches

@@ -1,5 +1,5 @@
 //! Loads and stores, wherever their addresses lead.
-ghost use Rattle.std.specs.Prelude.{◌≡◌, ◌*◌, ◌%◌, ◌^◌, ◌<◌, length, true, Ok};
+ghost use Rattle.std.specs.Prelude.{◌≡◌, ◌*◌, ◌%◌, ◌^◌, ◌<◌, length, true, false, Ok};
 ghost use Rattle.base_words.specs.declared.effect.Request.TheVariants as asks;
 ghost use Rattle.base_words.specs.declared.place.Place.TheVariants.{Memory};
 ghost use Rattle.base_words.specs.Instruction.{advanced};
@@ -42,6 +42,33 @@ impl Machine {
         let old = read(&self.vcpu(vcpu).registers, target);
         let value = loaded_value(kind, word, old, (offset % 4) as u32);
         self.put(vcpu, target, value);
+    }
+
+    /// A load, where its address leads to memory. Whether it does: if not nothing changes.
+    #[inline(always)]
+    pub fn load_memory(
+        &mut self,
+        vcpu: VcpuId,
+        kind: LoadKind,
+        address: u32,
+        target: Register,
+    ) -> bool
+        requires sound { IsSound self.old }
+        requires there { vcpu.0 < length (machine_of self.old).vcpus }
+        ensures sound { IsSound self.new }
+        ensures ready { self.new.ready ≡ self.old.ready }
+        ensures made { result ≡ true → requested (machine_of self.old) vcpu.0 (asks.Load kind address target) ≡ Ok (machine_of self.new) }
+        ensures same { result ≡ false → machine_of self.new ≡ machine_of self.old }
+        ensures keeps { Keeps (machine_of self.old) vcpu.0 (machine_of self.new) }
+    {
+        let place = self
+            .vcpu(vcpu)
+            .place(self.pages, load_unit(kind), Use::Load, address);
+        if let Ok(Place::Memory(offset)) = place {
+            self.load_word(vcpu, kind, offset, target);
+            return true;
+        }
+        false
     }
 
     /// A load, and what it changed.
@@ -94,6 +121,27 @@ impl Machine {
         let word = stored_word(kind, self.word_around(offset), value, (offset % 4) as u32);
         self.write(vcpu, offset, line_of(offset), word);
         self.pass(vcpu);
+    }
+
+    /// A store, where its address leads to memory. Whether it does: if not nothing changes.
+    #[inline(always)]
+    pub fn store_memory(&mut self, vcpu: VcpuId, kind: StoreKind, address: u32, value: u32) -> bool
+        requires sound { IsSound self.old }
+        requires there { vcpu.0 < length (machine_of self.old).vcpus }
+        ensures sound { IsSound self.new }
+        ensures ready { self.new.ready ≡ self.old.ready }
+        ensures made { result ≡ true → requested (machine_of self.old) vcpu.0 (asks.Store kind address value) ≡ Ok (machine_of self.new) }
+        ensures same { result ≡ false → machine_of self.new ≡ machine_of self.old }
+        ensures keeps { Keeps (machine_of self.old) vcpu.0 (machine_of self.new) }
+    {
+        let place = self
+            .vcpu(vcpu)
+            .place(self.pages, store_unit(kind), Use::Store, address);
+        if let Ok(Place::Memory(offset)) = place {
+            self.store_word(vcpu, kind, offset, value);
+            return true;
+        }
+        false
     }
 
     /// A store, and what it changed.

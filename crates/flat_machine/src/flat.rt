@@ -13,12 +13,13 @@ use crate::machine::Machine;
 use base_words::{Blocks, Bytes, InputList, OwnEvent, Page, Ppn, SentPacket, VcpuId};
 use elf_image::Image;
 use guest_devs::Devs;
+use page_ops::Memo;
 use private_machine::new_vcpus;
 use std::alloc::{AllocError, Global};
 use std::marker::Model;
 
 /// A guest's private machine.
-#[derive(Debug, Drop)]
+#[derive(Drop)]
 pub struct Flat {
     machine: Machine,
 }
@@ -36,16 +37,18 @@ impl Model for Flat {
 }
 
 impl Flat {
-    /// A guest at its start, of the image's memory and so many virtual processors, with a disk or none, and with its input.
+    /// A guest of a profile at its start, of the image's memory and so many virtual processors, with a disk or none, and with its input.
+    /// In profile 2 its kernel has a register page.
     pub fn boot(
         alloc: Global,
         image: &Image,
         vcpus: u8,
+        profile: u8,
         disk: Option<&Blocks>,
         input: &InputList,
     ) -> Result<Self, AllocError>
         requires { 0 < vcpus }
-        ensures { IfOk result (λ flat. flat ≡ booted (start_of image.now) vcpus (disk_of (option_map (λ blocks. blocks.now) disk.entry)) input.now) }
+        ensures { IfOk result (λ flat. flat ≡ booted (start_of image.now) vcpus profile (disk_of (option_map (λ blocks. blocks.now) disk.entry)) input.now) }
     {
         let Ok(pages) = u32::try_from(image.pages.len()) else {
             return Err(AllocError);
@@ -58,6 +61,8 @@ impl Flat {
                 vcpus: new_vcpus(alloc, image.entry, vcpus)?,
                 devs: Devs::new(alloc, vcpus, pages, input)?,
                 disk: disk_from(alloc, disk)?,
+                register_page: profile == 2,
+                memo: Memo::new(alloc)?,
                 spare: Vec::new(alloc),
                 ready: false,
             },
@@ -116,6 +121,8 @@ impl Flat {
             vcpus: _,
             devs,
             disk: _,
+            register_page: _,
+            memo: _,
             spare: _,
             ready: _,
         } = self.machine;

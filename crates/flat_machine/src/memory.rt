@@ -44,6 +44,17 @@ pub fn page_bytes(memory: &[u8], pages: u32, page: u32, count: usize) -> &[u8]
     &memory[start..start + count]
 }
 
+/// The page that begins at an offset.
+#[inline(always)]
+pub fn page_from(memory: &[u8], pages: u32, start: u64) -> &[u8]
+    requires whole { length memory.now ≡ 4096 * pages }
+    requires within { start + 4096 ≤ 4096 * pages }
+    ensures { result.now ≡ take 4096 (drop start memory.now) }
+{
+    let start = start as usize;
+    &memory[start..start + PAGE_SIZE as usize]
+}
+
 /// Other bytes come into the beginning of a page.
 pub fn fill_page(memory: &mut [u8], pages: u32, page: u32, bytes: &[u8])
     requires whole { length memory.old ≡ 4096 * pages }

@@ -1,27 +1,31 @@
 //! Steps, and packets that come in.
-ghost use Rattle.std.specs.Prelude.{◌≡◌, ◌≢◌, ◌<◌, ◌≤◌, IfOk, OnOk, OnErr, Ok, length, not, true, false, replicate};
+ghost use Rattle.std.specs.Prelude.{◌≡◌, ◌≢◌, ◌<◌, ◌≤◌, IfOk, IfSome, OnOk, OnErr, Ok, length, not, true, false, replicate};
 ghost use Rattle.base_words.specs.Instruction.{effect};
 ghost use Rattle.base_words.specs.OpcodeMap.{decoded};
 ghost use Rattle.base_words.specs.Coprocessor.{in_user_mode, interrupts};
-ghost use Rattle.private_machine.specs.PrivateMachine.{vcpu as vcpu_at};
-ghost use Rattle.private_machine.specs.OwnStep.{is_privileged as is_privileged_of, is_usable, usable, fetched, attempted, acted, joined, own_step};
+ghost use Rattle.private_machine.specs.PrivateMachine.{vcpu as vcpu_at, is_open as is_open_to};
+ghost use Rattle.private_machine.specs.OwnStep.{is_privileged as is_privileged_of, is_usable as is_usable_by, usable, fetched, attempted, acted, joined, own_step};
+ghost use Rattle.mips_alu.specs.Execution.{Executes};
+ghost use Rattle.private_machine.specs.RegisterPage.{opened};
 ghost use Rattle.private_machine.specs.Packet.{own_packet};
 ghost use Rattle.flat_machine.specs.FlatView.{machine_of, IsSound};
 ghost use Rattle.base_words.specs.declared.events.OwnEvent.TheVariants.{Step};
 ghost use Rattle.private_machine.specs.Vcpu.{space_of};
 ghost use Rattle.private_machine.specs.PrivateRun.{private_run};
 ghost use Rattle.flat_machine.specs.Attempts.{Attempts, Begins, requested};
+ghost use Rattle.flat_machine.specs.Stretches.{IsStop};
 ghost use Rattle.flat_machine.specs.Windows.{IsFetchPage, IsWindow, Keeps, MadeSome};
 ghost use Rattle.flat_machine.specs.declared.window.Change.TheVariants as changes;
 
 use crate::machine::Machine;
 use crate::memory::fill_page;
 use crate::window::{Change, FetchPage, Window};
-use base_words::{Exception, GuestId, PAGE_SIZE, Place, Request, Use, VcpuId};
+use base_words::{Exception, GuestId, PAGE_SIZE, Place, Regs, Request, Use, VcpuId};
 use guest_devs::{quiet_steps, quiet_steps_pass};
 use mips_alu::execute;
 use mips_isa::decode;
-use private_machine::unlink_page;
+use page_ops::Stop;
+use private_machine::{redirected, unlink_page};
 use std::alloc::AllocError;
 
 /// The primary opcode of coprocessor 0.
@@ -33,6 +37,17 @@ fn is_privileged(word: u32) -> bool
     ensures { result ≡ is_privileged_of word }
 {
     word >> 26 == COPROCESSOR_0
+}
+
+/// What an instruction asks for, once registers are as it leaves them, where the register page is open of its register; or what it raises.
+#[inline]
+fn asked(regs: &mut Regs, is_open: bool, word: u32) -> Result<Request, Exception>
+    ensures { Executes (opened is_open (effect (decoded word) regs.old)) regs.old regs.new result }
+{
+    match execute(&decode(word), regs) {
+        Ok(request) => Ok(redirected(is_open, request)),
+        Err(exception) => Err(exception),
+    }
 }
 
 impl Machine {
@@ -81,6 +96,24 @@ impl Machine {
         }
     }
 
+    /// Whether a virtual processor may run an instruction: one of coprocessor 0 isn't for its user mode.
+    #[inline(always)]
+    fn is_usable(&self, vcpu: VcpuId, word: u32) -> bool
+        requires there { vcpu.0 < length (machine_of self.now).vcpus }
+        ensures { result ≡ is_usable_by word (in_user_mode (vcpu_at (machine_of self.now) vcpu.0).cp0.status) }
+    {
+        !(is_privileged(word) && self.vcpu(vcpu).cp0.is_user())
+    }
+
+    /// Whether the register page is open to a virtual processor.
+    #[inline(always)]
+    pub fn is_open(&self, vcpu: VcpuId) -> bool
+        requires there { vcpu.0 < length (machine_of self.now).vcpus }
+        ensures { result ≡ is_open_to (machine_of self.now) vcpu.0 }
+    {
+        self.register_page && !self.vcpu(vcpu).cp0.is_user()
+    }
+
     /// Does what an instruction does by itself, and answers what it asks.
     #[inline]
     fn begin(&mut self, vcpu: VcpuId, word: u32) -> Result<Request, Exception>
@@ -89,13 +122,14 @@ impl Machine {
         ensures sound { IsSound self.new }
         ensures ready { self.new.ready ≡ self.old.ready }
         ensures count { length (machine_of self.new).vcpus ≡ length (machine_of self.old).vcpus }
-        ensures begins { Begins (machine_of self.old) vcpu.0 (usable (is_usable word (in_user_mode (vcpu_at (machine_of self.old) vcpu.0).cp0.status)) (effect (decoded word) (vcpu_at (machine_of self.old) vcpu.0).registers)) (machine_of self.new) result }
+        ensures begins { Begins (machine_of self.old) vcpu.0 (usable (is_usable_by word (in_user_mode (vcpu_at (machine_of self.old) vcpu.0).cp0.status)) (effect (decoded word) (vcpu_at (machine_of self.old) vcpu.0).registers)) (machine_of self.new) result }
         ensures keeps { Keeps (machine_of self.old) vcpu.0 (machine_of self.new) }
     {
-        if is_privileged(word) && self.vcpu(vcpu).cp0.is_user() {
+        if !self.is_usable(vcpu, word) {
             return Err(Exception::CoprocessorUnusable(0));
         }
-        execute(&decode(word), &mut self.vcpus[vcpu.0 as usize].registers)
+        let is_open = self.is_open(vcpu);
+        asked(&mut self.vcpus[vcpu.0 as usize].registers, is_open, word)
     }
 
     /// Does what an instruction asks of memory or of coprocessor 0, and answers what it changed.
@@ -263,7 +297,7 @@ impl Machine {
     }
 
     /// One step of a virtual processor; one that has halted changes nothing. The window is what it goes by, and the next one.
-    #[inline(always)]
+    #[inline(never)]
     fn own_step(&mut self, vcpu: VcpuId, window: &mut Window) -> Result<(), AllocError>
         requires sound { IsSound self.old }
         requires there { vcpu.0 < length (machine_of self.old).vcpus }
@@ -290,6 +324,32 @@ impl Machine {
         Ok(())
     }
 
+    /// One step of a virtual processor, at what ended a stretch.
+    #[inline(always)]
+    fn step_at(
+        &mut self,
+        vcpu: VcpuId,
+        stop: Option<Stop>,
+        window: &mut Window,
+    ) -> Result<(), AllocError>
+        requires sound { IsSound self.old }
+        requires there { vcpu.0 < length (machine_of self.old).vcpus }
+        requires window { IsWindow (machine_of self.old) vcpu.0 window.old }
+        requires ready { 0 < window.old.quiet → self.old.ready ≡ true }
+        requires stops { IfSome stop (IsStop (machine_of self.old) vcpu.0) }
+        ensures sound { IsSound self.new }
+        ensures count { length (machine_of self.new).vcpus ≡ length (machine_of self.old).vcpus }
+        ensures stepped { OnOk result (machine_of self.new ≡ own_step (machine_of self.old) vcpu.0) }
+        ensures refused { OnErr result (machine_of self.new ≡ machine_of self.old) }
+        ensures window { IsWindow (machine_of self.new) vcpu.0 window.new }
+        ensures ready { 0 < window.new.quiet → self.new.ready ≡ true }
+    {
+        if self.serve(vcpu, stop, window) {
+            return Ok(());
+        }
+        self.own_step(vcpu, window)
+    }
+
     /// So many steps of a virtual processor. Where memory is wanting, some of them were made.
     #[inline(never)]
     pub fn run(&mut self, vcpu: VcpuId, steps: u64) -> Result<(), AllocError>
@@ -301,8 +361,14 @@ impl Machine {
         ensures wants { OnErr result (MadeSome (machine_of self.old) vcpu steps (machine_of self.new)) }
     {
         let mut window = Window::new();
-        for _ in 0..steps {
-            self.own_step(vcpu, &mut window)?;
+        let mut made = 0;
+        while made < steps {
+            let stretch = self.run_plain(vcpu, steps - made, &mut window);
+            made += stretch.made;
+            if made < steps {
+                self.step_at(vcpu, stretch.stop, &mut window)?;
+                made += 1;
+            }
         }
         Ok(())
     }

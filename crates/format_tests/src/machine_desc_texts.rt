@@ -109,7 +109,7 @@ W @ | guest = 3~machine = 3~ | kind machine
 W @ | [machine]~nodes = 1~frames = 1~processors = [0]~ | missing guest
 W @ | cell = 3~[machine]~nodes = 1~frames = 1~processors = [0]~ | kind cell
 W @ | cell = []~[machine]~nodes = 1~frames = 1~processors = [0]~ | range cell 0
-W @ | cell = [{}, {}, {}, {}, {}]~[machine]~nodes = 1~frames = 1~processors = [0]~ | range cell 5
+W @ | cell = [{}, {}, {}, {}, {}, {}, {}, {}, {}]~[machine]~nodes = 1~frames = 1~processors = [0]~ | range cell 9
 W @ | cell = [3]~[machine]~nodes = 1~frames = 1~processors = [0]~ | kind cell
 P [[guest]] | [guest] | kind guest
 W @ | guest = [1]~[machine]~nodes = 1~frames = 1~processors = [0]~ | kind guest
@@ -139,7 +139,7 @@ P frames = 16 | frames = 4097 | range machine.frames 4097
 P frames = 16 | frames = 9223372036854775807 | range machine.frames 9223372036854775807
 P processors = [0] | processors = 0 | kind machine.processors
 P processors = [0] | processors = [] | range machine.processors 0
-P processors = [0] | processors = [0, 0, 0, 0, 0, 0, 0, 0, 0, 0, 0, 0, 0, 0, 0, 0, 0] | range machine.processors 17
+P processors = [0] | processors = [0, 0, 0, 0, 0, 0, 0, 0, 0, 0, 0, 0, 0, 0, 0, 0, 0, 0, 0, 0, 0, 0, 0, 0, 0, 0, 0, 0, 0, 0, 0, 0, 0] | range machine.processors 33
 P processors = [0] | processors = [\"0\", 8] | kind machine.processors
 P processors = [0] | processors = [0, 8, \"0\"] | range machine.processors 8
 P processors = [0] | processors = [-1] | range machine.processors -1
@@ -196,14 +196,14 @@ A steps = 7 | steps = 7~kind = \"migrate\" | unknown work[0].kind
 A cell = 1~ | cell = 1~guest = 0~ | unknown work[3].guest
 A vcpu = 1 | vcpus = 1 | unknown work[0].vcpus
 A processor = 1~ |  | missing work[0].processor
-A processor = 1 | processor = 16 | range work[0].processor 16
+A processor = 1 | processor = 32 | range work[0].processor 32
 A vcpu = 1 | vcpu = 4 | range work[0].vcpu 4
 A steps = 7 | steps = 16000001 | range work[0].steps 16000001
 A steps = 7 | steps = 16000000 | ok
 A page = 3 | page = 2048 | range work[1].page 2048
 A page = 15~node = 0 | page = 15 | missing work[2].node
 A page = 15~node = 0 | page = 15~node = 8 | range work[2].node 8
-A \"fail\"~processor = 2~cell = 1 | \"fail\"~processor = 2~cell = 4 | range work[3].cell 4
+A \"fail\"~processor = 2~cell = 1 | \"fail\"~processor = 2~cell = 8 | range work[3].cell 8
 A cell = 1~ |  | missing work[3].cell
 # `input`.
 A at = 30~text = \"x\" | at = 30~texts = \"x\" | unknown input[1].texts

@@ -171,11 +171,12 @@ next-source machine plan sources yielded rest now source described are all first
 
 -- ---- one guest at its start
 
-pub started : (machine : Machine) (plan : Plan) (around : Around) (source : Source) (spec : GuestSpec) (frames : List Frame) (input : List InputEntry) (seat : Seat) (shared : Shared) (passes : PassList) (holder : TableId) (number : ℕ) (guest : Monitored) → IsSite machine around.site → around.number.0 ≡ number → around.home ≡ spec.node → slice_get machine.guests number ≡ Some spec → slice_get plan.input number ≡ Some input → IsPlaced (described_seen machine plan) number spec (map found_of frames) → seat.number ≡ number → IsAtStart seat.number (booted_with around source.image spec.vcpus frames source.disk input) around.disk seat.board holder shared.wires passes guest → holder ≡ shared.table.id → FitsAround shared.table (surroundings around) → LieOnCell (surroundings around) (home_cell (surroundings around)) (blocks_of shared.indexes (home_cell (surroundings around))) → passes.guest.0 ≡ number → IsStarted (described_seen machine plan) source seat.board shared number guest
-started machine plan around source spec frames input seat shared passes holder number guest site of home spec-is input-is placed seat-is at made fits lie own =
+pub started : (machine : Machine) (plan : Plan) (around : Around) (source : Source) (spec : GuestSpec) (frames : List Frame) (input : List InputEntry) (seat : Seat) (shared : Shared) (passes : PassList) (holder : TableId) (number : ℕ) (guest : Monitored) → IsSite machine around.site → around.number.0 ≡ number → around.profile ≡ spec.profile → around.home ≡ spec.node → slice_get machine.guests number ≡ Some spec → slice_get plan.input number ≡ Some input → IsPlaced (described_seen machine plan) number spec (map found_of frames) → seat.number ≡ number → IsAtStart seat.number (booted_with around source.image spec.vcpus frames source.disk input) around.disk seat.board holder shared.wires passes guest → holder ≡ shared.table.id → FitsAround shared.table (surroundings around) → LieOnCell (surroundings around) (home_cell (surroundings around)) (blocks_of shared.indexes (home_cell (surroundings around))) → passes.guest.0 ≡ number → IsStarted (described_seen machine plan) source seat.board shared number guest
+started machine plan around source spec frames input seat shared passes holder number guest site of profile home spec-is input-is placed seat-is at made fits lie own =
     let d = described_seen machine plan in
     let lies : surroundings around ≡ around_of d number spec = λ k. record {
       guest = of k;
+      profile = profile k;
       home = (home k).0;
       frames = site.frames k;
       nodes = map (λ c. c.0) (site.cells k);

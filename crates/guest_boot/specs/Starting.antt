@@ -22,6 +22,7 @@ home_of d spec = slice_index (map (λ c. c.0) d.cells) spec.node.0
 abbrev pub around_of : Described → ℕ → GuestSpec → Surroundings
 around_of d guest spec = record {
   guest = guest;
+  profile = spec.profile;
   home = spec.node.0;
   frames = d.frames;
   nodes = map (λ c. c.0) d.cells;

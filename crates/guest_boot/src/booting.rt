@@ -151,6 +151,7 @@ fn boot_one(
         number: GuestId(number as u8),
         // A number that is too large becomes the last one, of which no cache keeps a block.
         disk: u32::try_from(source.number.unwrap_or(0)).unwrap_or(u32::MAX),
+        profile: spec.profile,
         home: spec.node,
         site: site_of(alloc, machine)?,
     };

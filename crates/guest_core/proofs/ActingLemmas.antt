@@ -24,6 +24,7 @@ use Rattle.guest_core.specs.GuestCalls.{Leaves, Turns, TurnsEmulate, WantsMemory
 use Rattle.guest_core.specs.declared.answers.Turn.{Turn}
 use Rattle.std.specs.declared.alloc.AllocError.{AllocError}
 use Rattle.guest_core.specs.GuestView.{AreOf, IsSameGuest, Monitored, Shared}
+use Rattle.guest_course.specs.StepCalls.{LosesPage}
 use Rattle.guest_core.specs.MoveCalls.{IsAtRest, StepIsOn}
 use Rattle.guest_core.specs.Sharing.{BeginsForStep, BeginsWith, Copies, SendsPlain}
 use Rattle.guest_core.specs.TurnParts.{BeginsFor, CarriesOut, StaysButView, WantsForAct}
@@ -100,7 +101,7 @@ begun-then shared old mid new p v act q kind rest at needs stays begins =
       rest = rest;
       step = inr (ap page_used at ∙ read-used old.state v.0 q.0 act needs.reads);
       kind = kind;
-      shares = with-kind shared old.disk old.state v.0 q.0 new.state kind old.view new.view (needs-kind old.state q.0 kind needs.needs.needs) (subst (Copies shared old.disk old.state v.0 old.view) (sym b.view) stays.copies);
+      shares = inr (with-kind shared old.disk old.state v.0 q.0 new.state kind old.view new.view (needs-kind old.state q.0 kind needs.needs.needs) (subst (Copies shared old.disk old.state v.0 old.view) (sym b.view) stays.copies));
       makes = record { makes = record { journal = b.makes.makes.journal; run = b.makes.makes.run }; passes = b.makes.passes };
     }
 
@@ -111,12 +112,22 @@ begun-store shared old new p v q kind rest is step stores b = record {
   rest = rest;
   step = step;
   kind = kind;
-  shares = with-kind shared old.disk old.state v.0 q.0 new.state kind old.view new.view is (λ b r at rests. absurd (no b r (sym stores ∙ at)));
+  shares = inr (with-kind shared old.disk old.state v.0 q.0 new.state kind old.view new.view is (λ b r at rests. absurd (no b r (sym stores ∙ at))));
   makes = b.makes;
 }
   where
     no : (b r : ℕ) → StoresTo q.0 ≡ ReadsDisk b r → ⊥
     no b r e = cc
+
+-- a page is collapsed that was reached by a frame of a failed cell
+pub begun-lost : (shared : Shared) (old new : Monitored) (p : ProcId) (v : VcpuId) (q : Ppn) → IsAtRest old.state p.0 → LosesPage old.state p.0 v.0 q.0 → BeginsFor old p q Collapse new → BeginsForStep shared old p v q new
+begun-lost shared old new p v q rest loses b = record {
+  rest = rest;
+  step = inl (inr loses);
+  kind = Collapse;
+  shares = inl (record { loses = loses; is_collapse = refl; view = b.view });
+  makes = b.makes;
+}
 
 -- ---- where memory was wanting
 

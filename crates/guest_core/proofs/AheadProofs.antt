@@ -13,6 +13,7 @@ use Rattle.shootdown.specs.declared.view.SidedNote.{SidedNote}
 use Rattle.shootdown.specs.Notes.{sided}
 use Rattle.frame_words.specs.declared.view.View.{View}
 use Rattle.isolation_law.specs.Exchange.{Exchanged}
+use Rattle.isolation_law.specs.UseChange.{UseChanged}
 use Rattle.isolation_law.specs.GuestState.{GuestState}
 use Rattle.isolation_law.specs.Run.{Run}
 use Rattle.isolation_law.specs.Start.{Boot}
@@ -99,7 +100,8 @@ module _ (w : RowLaws) (p : ProcId) (v : VcpuId) where
         let was = row.goes_on.not_ended in
         frames-stay m t view (gives m t p.0 v.0 row) (w.around m t (Direct p v) row) (on ∙ sym was) (frames-many n s m view before was k)
 
+  module _ (changes : (s t : GuestState) (p v : ℕ) → Steps s p v t → UseChanged s t [] []) where
     pub uses-many : (n : ℕ) (s t : GuestState) (uses : UsesState) → StepsMany n s p.0 v.0 t → AreUses s uses → AreUses t uses
     uses-many zero s t uses is k = subst (λ (x : GuestState). AreUses x uses) (sym is) k
     uses-many (suc n) s t uses (m, before, row) k =
-        uses-row w m t (Direct p v) uses row (gives m t p.0 v.0 row) (λ r. refl) (uses-many n s m uses before k)
+        uses-row w m t (Direct p v) uses row (changes m t p.0 v.0 row) (λ r. refl) (uses-many n s m uses before k)

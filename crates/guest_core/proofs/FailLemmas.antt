@@ -42,6 +42,7 @@ use Rattle.guest_core.specs.Wiring.{Posted}
 use Rattle.guest_core.specs.declared.parts.Parts.{Parts}
 use Rattle.guest_course.specs.CourseRules.{IsSound}
 use Rattle.isolation_law.specs.Exchange.{Exchanged}
+use Rattle.isolation_law.specs.UseChange.{UseChanged}
 use Rattle.event_journal.specs.JournalView.{JournalView}
 use Rattle.shootdown.specs.declared.notes.Note.{Note}
 use Rattle.guest_core.proofs.EnterProofs.{of-these}
@@ -129,9 +130,9 @@ pub record Beyond (g : Parts) (c : CellId) (side : ℕ) (answer : Note) (d : Cou
   pub notes_of : seat ≡ record g.seat { notes = (g.seat.notes ++ sided side (Made (CellFails c)) ∷ []) ++ sided side answer ∷ [] }
 
 pub kept-beyond : RowLaws → RunLaws → MoveLaws → TakeLaws → (g : Parts) (c : CellId) (side : ℕ) (answer : Note) (d : Course) (journal : JournalView) (seat : Seat)
-    → IsKept g → 2 ≤ room_of g.journal.room g.course → Exchanged (state_of g.course) (state_of d) [] [] → Beyond g c side answer d journal seat
+    → IsKept g → 2 ≤ room_of g.journal.room g.course → Exchanged (state_of g.course) (state_of d) [] [] → UseChanged (state_of g.course) (state_of d) [] [] → Beyond g c side answer d journal seat
     → IsKept (record g { course = d; journal = journal; seat = seat })
-kept-beyond w r v x g c side answer d journal seat k had ex b =
+kept-beyond w r v x g c side answer d journal seat k had ex change b =
     let s = state_of g.course in
     let t = state_of d in
     let e : Event = CellFails c in
@@ -147,7 +148,7 @@ kept-beyond w r v x g c side answer d journal seat k had ex b =
       kept = of-these g.start t _ _ _ _ b.entries (ap (λ (y : Seat). y.notes) b.notes_of) two;
       goes_on = λ on. b.goes_on (k.goes_on (sym (ap (λ (y : Course). y.ended) b.marks.same) ∙ on));
       frames = frames-stay s t _ ex around (ap (λ (y : Course). y.ended) b.marks.same) k.frames;
-      used = uses-row w s t e g.uses row ex (λ p. refl) k.used;
+      used = uses-row w s t e g.uses row change (λ p. refl) k.used;
       at_home = k.at_home;
       owed = omega (arith, room, fail-due w v s t c row, b.room);
       few_guests = k.few_guests;

@@ -131,3 +131,6 @@ none-gained (GivesShared target) is = absurd is
 
 pub exchanged-inside : (s t : GuestState) (q : ℕ) (kind : MoveKind) (node : ℕ) (by : By) → (row : Begins s q kind node by t) → IsInside kind → Exchanged s t (gained row.change) [] → Exchanged s t [] []
 exchanged-inside s t q kind node by row is ex = subst (λ (l : List Copy). Exchanged s t l []) (none-gained row.change (subst IsInside (sym row.is_kind) is)) ex
+
+pub changed-inside : (s t : GuestState) (q : ℕ) (kind : MoveKind) (node : ℕ) (by : By) → (row : Begins s q kind node by t) → IsInside kind → UseChanged s t (gained row.change) [] → UseChanged s t [] []
+changed-inside s t q kind node by row is ex = subst (λ (l : List Copy). UseChanged s t l []) (none-gained row.change (subst IsInside (sym row.is_kind) is)) ex

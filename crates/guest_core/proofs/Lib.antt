@@ -16,6 +16,7 @@ pub mod HandProofs
 pub mod LettingLemmas
 pub mod EnterProofs
 pub mod LoadedCells
+pub mod UntiedLemmas
 pub mod UsingProofs
 pub mod CountedCopies
 pub mod GivingLemmas

@@ -14,7 +14,7 @@ use Rattle.base_words.specs.declared.ids.FrameNo.{FrameNo}
 use Rattle.cell_depend.specs.CellUse.{lies_in as lies, is_cell, is_some_cell, frames_in, vcpus_in}
 use Rattle.cell_depend.specs.Counters.{UsesState, count_at, total}
 use Rattle.private_machine.specs.Backing.{Copy}
-use Rattle.isolation_law.specs.CellUse.{held, lies_in, loaded_in, uses}
+use Rattle.isolation_law.specs.CellUse.{used_frames, lies_in, loaded_in, uses}
 use Rattle.isolation_law.specs.GuestState.{GuestState}
 use Rattle.isolation_law.specs.Holdings.{is_frame}
 use Rattle.isolation_law.specs.Parts.{Processor}
@@ -72,11 +72,11 @@ told-so false (suc n) is = absurd (never (is.1 (λ (e : suc n ≡ 0). omega arit
     never e = cc
 
 -- what the counters say of a cell is what the state of a guest that hasn't ended says
-pub counted-use : (s : GuestState) (u : UsesState) (cell : ℕ) (r : Bool) → s.end ≡ None → ((frame : ℕ) → 0 < count_by (is_frame frame) (held s) → frame < frames_around s.around) → cell < most_cells → AreUses s u
+pub counted-use : (s : GuestState) (u : UsesState) (cell : ℕ) (r : Bool) → s.end ≡ None → ((frame : ℕ) → 0 < count_by (is_frame frame) (used_frames s) → frame < frames_around s.around) → cell < most_cells → AreUses s u
     → IsTrue r ↔ (total (count_at u cell) ≢ 0) → r ≡ uses s cell
 counted-use s u cell r on within lt are is =
     let there : cell < length u.counts = omega (arith, are.cells) in
-    let frames = any-frame s.around are.shape cell (held s) are.told within in
+    let frames = any-frame s.around are.shape cell (used_frames s) are.told within in
     let loaded = any-loaded s.around cell 0 s.processors in
     told-so r (total (count_at u cell)) is ∙ (λ i. not (are.counts.frames cell there i + are.counts.vcpus cell there i == 0)) ∙ sym (either-some _ _) ∙ (λ i. sym frames i || sym loaded i)
-    ∙ ap (λ (e : Option End). is_none e && (list_any (lies_in s.around cell) (held s) || loaded_in s.around cell 0 s.processors)) (sym on)
+    ∙ ap (λ (e : Option End). is_none e && (list_any (lies_in s.around cell) (used_frames s) || loaded_in s.around cell 0 s.processors)) (sym on)

@@ -15,9 +15,9 @@ use Rattle.cell_depend.specs.CellUse.{Rows, lies_in as lies, frames_in, vcpus_in
 use Rattle.cell_depend.specs.Counters.{UsesState, AreCounts, without_frames}
 use Rattle.cell_depend.specs.Events.{Leaves}
 use Rattle.private_machine.specs.Backing.{Copy}
-use Rattle.private_machine.specs.PageMove.{held_for}
-use Rattle.isolation_law.specs.CellUse.{held}
-use Rattle.isolation_law.specs.Exchange.{Exchanged, count_of}
+use Rattle.isolation_law.specs.CellUse.{used_frames}
+use Rattle.isolation_law.specs.Exchange.{count_of}
+use Rattle.isolation_law.specs.UseChange.{UseChanged}
 use Rattle.isolation_law.specs.GuestState.{GuestState, processor}
 use Rattle.isolation_law.specs.LoadRows.{Loads, Unloads, unloaded}
 use Rattle.isolation_law.specs.LoadsIn.{loaded_after}
@@ -30,7 +30,6 @@ use Rattle.isolation_law.specs.Surroundings.{Surroundings}
 use Rattle.guest_course.specs.BootCalls.{found_of}
 use Rattle.guest_core.specs.Using.{AreUses, IsShapeOf, frame_of, loaded_cells, rows_of}
 use Rattle.guest_core.specs.Laws.{RowLaws}
-use Rattle.guest_core.proofs.HoldingLemmas.{same-count}
 use Rattle.guest_core.proofs.LoadedCells.{cell_at, cells-same, cells-set, cells-cleared, none-loaded}
 
 -- ---- over an entry that takes and gives no frame
@@ -43,8 +42,13 @@ frames-counted shape q (c ∷ cs) =
     ∙ ap (λ (n : ℕ). cond (lies shape q (frame_of c)) 1 0 + n) (frames-counted shape q cs)
     ∙ sym (sum_by-cons (λ (x : Copy). cond {A = ℕ} (lies shape q (frame_of x)) 1 0) c cs)
 
-as-many-frames : (s t : GuestState) → Exchanged s t [] [] → (shape : Shape) (q : ℕ) → frames_in shape q (rows_of t).frames ≡ frames_in shape q (rows_of s).frames
-as-many-frames s t ex shape q = frames-counted shape q (held t) ∙ same-count s t ex (λ frame generation. lies shape q (record { 0 = frame })) ∙ sym (frames-counted shape q (held s))
+as-many-frames : (s t : GuestState) → UseChanged s t [] [] → (shape : Shape) (q : ℕ) → frames_in shape q (rows_of t).frames ≡ frames_in shape q (rows_of s).frames
+as-many-frames s t ex shape q =
+    let balance = ex.balance (λ frame generation. lies shape q (record { 0 = frame })) in
+    let now = frames-counted shape q (used_frames t) in
+    let was = frames-counted shape q (used_frames s) in
+    let none : count_of (λ frame generation. lies shape q (record { 0 = frame })) [] ≡ 0 = refl in
+    omega arith
 
 -- counted from other rows with as many frames of each cell
 pub recounted : (shape : Shape) (rows other : Rows) (uses : UsesState) → ((q : ℕ) → frames_in shape q other.frames ≡ frames_in shape q rows.frames) → other.loaded ≡ rows.loaded → AreCounts shape rows uses → AreCounts shape other uses
@@ -53,7 +57,7 @@ recounted shape rows other uses frames loaded are = record {
   vcpus = λ q within. are.vcpus q within ∙ ap (vcpus_in q) (sym loaded);
 }
 
-uses-stay : (s t : GuestState) (uses : UsesState) → Exchanged s t [] [] → t.around ≡ s.around → length t.processors ≡ length s.processors → ((r : ℕ) → (processor t r).loaded ≡ (processor s r).loaded) → AreUses s uses → AreUses t uses
+uses-stay : (s t : GuestState) (uses : UsesState) → UseChanged s t [] [] → t.around ≡ s.around → length t.processors ≡ length s.processors → ((r : ℕ) → (processor t r).loaded ≡ (processor s r).loaded) → AreUses s uses → AreUses t uses
 uses-stay s t uses ex around long same u = record {
   shape = u.shape;
   told = subst (λ (w : Surroundings). IsShapeOf w u.shape) (sym around) u.told;
@@ -62,7 +66,7 @@ uses-stay s t uses ex around long same u = record {
       (ap (λ (w : Surroundings). loaded_cells w 0 t.processors) around ∙ cells-same s.around 0 s.processors t.processors long same) u.counts;
 }
 
-pub uses-row : RowLaws → (s t : GuestState) (e : Event) (uses : UsesState) → Row s e t → Exchanged s t [] [] → ((r : ℕ) → loaded_after e r (processor s r).loaded ≡ (processor s r).loaded) → AreUses s uses → AreUses t uses
+pub uses-row : RowLaws → (s t : GuestState) (e : Event) (uses : UsesState) → Row s e t → UseChanged s t [] [] → ((r : ℕ) → loaded_after e r (processor s r).loaded ≡ (processor s r).loaded) → AreUses s uses → AreUses t uses
 uses-row w s t e uses row ex same u = uses-stay s t uses ex (w.around s t e row) (w.processors s t e row) (λ r. w.loaded s t e r row ∙ same r) u
 
 pub uses-come : (s t : GuestState) (uses : UsesState) → AreUses s uses → ComesToHand s t → AreUses t uses
@@ -83,10 +87,10 @@ uses-load s t p v old new law long row u =
     let joins = cells-set s.around p v s.processors x row.is_processor row.free refl in
     subst (λ (g : GuestState). AreUses g new) (sym row.after) (record { shape = u.shape; told = u.told; cells = long ∙ u.cells; counts = law u.shape (rows_of s) _ u.counts joins })
 
-pub uses-unload : (s t : GuestState) (p v : ℕ) (old new : UsesState) → FollowsBack old new (cell_at s.around p) → length new.counts ≡ length old.counts → p < length s.processors → (processor s p).loaded ≡ Some v → Exchanged s t [] [] → Unloads s p t → AreUses s old → AreUses t new
+pub uses-unload : (s t : GuestState) (p v : ℕ) (old new : UsesState) → FollowsBack old new (cell_at s.around p) → length new.counts ≡ length old.counts → p < length s.processors → (processor s p).loaded ≡ Some v → UseChanged s t [] [] → Unloads s p t → AreUses s old → AreUses t new
 uses-unload s t p v old new law long lt there ex row u =
     let m = unloaded p s in
-    let same : Exchanged s m [] [] = subst (λ (g : GuestState). Exchanged s g [] []) row.after ex in
+    let same : UseChanged s m [] [] = subst (λ (g : GuestState). UseChanged s g [] []) row.after ex in
     let leaves = cells-cleared s.around p v s.processors lt there in
     let less : Rows = record (rows_of s) { loaded = (rows_of m).loaded } in
     subst (λ (g : GuestState). AreUses g new) (sym row.after) (record {
@@ -108,7 +112,7 @@ uses-end s t uses law around processors pages spares u =
 
 -- ---- at the start
 
-booted-frames : (fs : List Frame) (memory : List ℕ) → map frame_of (flat_map held_for (pages_at_start (map found_of fs) memory) ++ []) ≡ map (λ (f : Frame). f.number) fs
+booted-frames : (fs : List Frame) (memory : List ℕ) → map frame_of (flat_map used_for (pages_at_start (map found_of fs) memory) ++ []) ≡ map (λ (f : Frame). f.number) fs
 booted-frames [] memory = refl
 booted-frames (f ∷ fs) memory = ap (λ (l : List FrameNo). f.number ∷ l) (booted-frames fs (drop 4096 memory))
 
@@ -119,7 +123,7 @@ uses-start b fs shape uses from told long are = record {
   told = told;
   cells = long;
   counts = recounted shape (record { frames = map (λ (f : Frame). f.number) fs; loaded = [] }) (rows_of (started b)) uses
-      (λ q. ap (frames_in shape q) (ap (λ l. map frame_of (flat_map held_for (pages_at_start l b.image.memory) ++ [])) from ∙ booted-frames fs b.image.memory)) (none-loaded b.around 0 (length b.around.processors)) are;
+      (λ q. ap (frames_in shape q) (ap (λ l. map frame_of (flat_map used_for (pages_at_start l b.image.memory) ++ [])) from ∙ booted-frames fs b.image.memory)) (none-loaded b.around 0 (length b.around.processors)) are;
 }
 
 -- each frame that was found is the machine's

@@ -1,6 +1,9 @@
--- How a guest's frames come and go beside its pages: a frame that is taken before a move begins, and those that are given back after one
--- has ended.
-use Rattle.std.specs.Prelude.{◌≡◌, ℕ, ◌<◌, true, List, ◌∷◌, ◌++◌, length, Some, None, slice_get}
+-- How a guest's frames come and go beside its pages: a frame that is taken before a move begins, those that are given back after one has
+-- ended, and the one that is counted no more.
+use Rattle.std.specs.Prelude.{◌≡◌, ℕ, ◌<◌, true, List, ◌∷◌, ◌++◌, length, Option, Some, None, option_map, slice_get}
+use Rattle.std.specs.Option.{option_to_list}
+use Rattle.base_words.specs.Membership.{Has}
+use Rattle.base_words.specs.declared.ids.FrameNo.{FrameNo}
 use Rattle.base_words.specs.declared.frame.Frame.{Frame}
 use Rattle.base_words.specs.declared.ids.NodeId.{NodeId}
 use Rattle.cell_depend.specs.Counters.{UsesState}
@@ -17,7 +20,7 @@ use Rattle.isolation_law.specs.GuestState.{GuestState, page}
 use Rattle.isolation_law.specs.Holdings.{AllDifferent, nodes_of}
 use Rattle.isolation_law.specs.MoveRows.{Fits, IsForeign, LiesAlive}
 use Rattle.isolation_law.specs.Parts.{Wish}
-use Rattle.guest_core.specs.Holding.{HoldsCopies, IsHolding}
+use Rattle.guest_core.specs.Holding.{HoldsCopies, IsHolding, frames_around}
 use Rattle.guest_core.specs.MoveCalls.{FindsFrame, NodesShow}
 use Rattle.guest_core.specs.Using.{CountsCopies}
 
@@ -25,12 +28,18 @@ use Rattle.guest_core.specs.Using.{CountsCopies}
 abbrev pub AreSpread : GuestState → Type 0
 AreSpread s = (q : ℕ) → q < length s.pages → AllDifferent (nodes_of s.around (page s q))
 
--- Frames of these numbers are to be given back: they are those of copies that the holder has, and the counters count, beside the guest's
--- own.
-pub record ToGiveBack (s : GuestState) (freed : List ℕ) (view : View) (uses : UsesState) : Type 0 where
+-- Frames of these numbers are to be given back: they are those of copies that the holder has beside the guest's own.
+pub record ToGiveBack (s : GuestState) (freed : List ℕ) (view : View) : Type 0 where
   pub copies : List Copy
   pub numbers : freed ≡ numbers_of copies
   pub held_too : HoldsCopies s.around (held s ++ copies) view
+
+-- A frame of this number, if there is one, is to be counted no more: it is that of a copy, of a frame of the machine, that the counters
+-- count beside those that the guest uses.
+pub record ToCountNoMore (s : GuestState) (untied : Option FrameNo) (uses : UsesState) : Type 0 where
+  pub copies : List Copy
+  pub numbers : option_to_list (option_map (λ n. n.0) untied) ≡ numbers_of copies
+  pub within : (c : Copy) → Has copies c → c.frame < frames_around s.around
   pub counted_too : CountsCopies s (used_frames s ++ copies) uses
 
 -- the first frame that could be had on these nodes was taken, which the guest didn't hold: the holder has it and the counters count it beside

@@ -29,7 +29,7 @@ use Rattle.isolation_law.specs.StepAct.{at_hand}
 use Rattle.isolation_law.specs.Surroundings.{Surroundings, home_cell}
 use Rattle.guest_course.specs.Acting.{page_used, IsOwnRead, IsTaken}
 use Rattle.guest_course.specs.EndCalls.{EndsSo, letting_go}
-use Rattle.guest_course.specs.RefillCalls.{ReachesPage}
+use Rattle.guest_course.specs.RefillCalls.{TrapsOn}
 use Rattle.guest_course.specs.SkipView.{shown_of}
 use Rattle.guest_core.specs.Asks.{note_of}
 use Rattle.guest_core.specs.GuestView.{Monitored}
@@ -63,14 +63,14 @@ StillActs old new = (p : ℕ) → MayAct old.state p → MayAct new.state p
 
 -- ---- a step that meets a move
 
--- the step at hand is on this page: the processor traps for an access to it that the guest grants, or a block comes into it, or one or a
--- packet comes from it
+-- the step at hand is on this page: the processor traps for an access to it that the guest grants, or for a frame of it that lies in a
+-- failed cell, or a block comes into it, or one or a packet comes from it
 abbrev pub StepIsOn : GuestState → ℕ → ℕ → ℕ → Type 0
-StepIsOn s p v q = ReachesPage s p v q ⊎ (page_used (at_hand s v) ≡ Some q)
+StepIsOn s p v q = TrapsOn s p v q ⊎ (page_used (at_hand s v) ≡ Some q)
 
 -- so it is, and not for the disk read for which the page is taken shared already
 abbrev pub MeetsPage : GuestState → ℕ → ℕ → ℕ → Type 0
-MeetsPage s p v q = ReachesPage s p v q ⊎ ((page_used (at_hand s v) ≡ Some q) × (IsOwnRead s v q → ⊥))
+MeetsPage s p v q = TrapsOn s p v q ⊎ ((page_used (at_hand s v) ≡ Some q) × (IsOwnRead s v q → ⊥))
 
 -- the page has a move, which does this
 pub record IsDoing (s : GuestState) (q : ℕ) (change : Change) : Type 0 where

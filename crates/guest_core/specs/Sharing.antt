@@ -26,6 +26,7 @@ use Rattle.guest_course.specs.TakingCalls.{HasCode}
 use Rattle.guest_core.specs.Blocks.{blocks_of}
 use Rattle.guest_core.specs.GuestView.{Monitored, Shared}
 use Rattle.guest_core.specs.Making.{MakesAlone}
+use Rattle.guest_course.specs.StepCalls.{LosesPage}
 use Rattle.guest_core.specs.MoveCalls.{IsAtRest, IsDoing, IsLayoutOf, StepIsOn}
 use Rattle.base_words.specs.declared.ids.NodeId.{NodeId}
 
@@ -125,10 +126,16 @@ BeginsWith Break shared disk s v q t old new = Copies shared disk s v old new
 BeginsWith TakeShared shared disk s v q t old new = TakesBlock shared disk s v q t old new
 BeginsWith GiveShared shared disk s v q t old new = GivesWithSpare shared s q t old new
 
+-- or none was, and the page is to be collapsed as the processor traps for a frame of it that lies in a failed cell
+pub record CollapsesLost (s : GuestState) (p v q : ℕ) (kind : MoveKind) (old new : View) : Type 0 where
+  pub loses : LosesPage s p v q
+  pub is_collapse : kind ≡ Collapse
+  pub view : new ≡ old
+
 -- the step needs a move of the page, which has begun
 pub record BeginsForStep (shared : Shared) (old : Monitored) (p : ProcId) (v : VcpuId) (q : Ppn) (new : Monitored) : Type 0 where
   pub rest : IsAtRest old.state p.0
   pub step : StepIsOn old.state p.0 v.0 q.0
   pub kind : MoveKind
-  pub shares : BeginsWith kind shared old.disk old.state v.0 q.0 new.state old.view new.view
+  pub shares : CollapsesLost old.state p.0 v.0 q.0 kind old.view new.view ⊎ BeginsWith kind shared old.disk old.state v.0 q.0 new.state old.view new.view
   pub makes : MakesAlone old (Begin q kind (record { 0 = old.state.around.home }) (Step p) ∷ []) new

@@ -1,5 +1,5 @@
 -- A guest's ends of its wires, against what it sent and what it took.
-use Rattle.std.specs.Prelude.{◌≡◌, ◌<◌, ◌-◌, ◌&&◌, nat_le, nat_lt, if◌then◌else◌, ℕ, List, [], length, map, All, Option, Some, None, slice_get}
+use Rattle.std.specs.Prelude.{◌≡◌, ◌<◌, ◌==◌, ◌&&◌, not, nat_le, nat_lt, Bool, ℕ, List, [], length, map, All, Option, Some, None, slice_get}
 use Rattle.base_words.specs.declared.events.Event.{Event}
 use Rattle.private_machine.specs.Operation.{Packet}
 use Rattle.isolation_law.specs.GuestState.{GuestState}
@@ -47,17 +47,17 @@ abbrev pub SentOn : PassList → Option Outgoing → PassList → Type 0
 SentOn old None new = SameEnds old new
 SentOn old (Some out) new = (answer : Sent) × SendsTo old out.to.0 out.packet answer new
 
--- how many guests but this one have a number from the first on and below the end
-abbrev pub others_in : ℕ → ℕ → ℕ → ℕ
-others_in own first end = (end - first) - (if nat_le first own && nat_lt own end then 1 else 0)
+-- another guest than this one, whose number is from the first on and below the end
+abbrev pub is_other_in : ℕ → ℕ → ℕ → ℕ → Bool
+is_other_in own first end other = nat_le first other && (nat_lt other end && not (other == own))
 
--- how many other guests there are
-abbrev pub others_of : PassList → ℕ
-others_of passes = others_in passes.guest.0 0 (length passes.takes.items)
+-- each other guest
+abbrev pub others_of : PassList → ℕ → Bool
+others_of passes = is_other_in passes.guest.0 0 (length passes.takes.items)
 
 -- a packet was taken from one of the wires, after others were asked in vain
 pub record TakesNext (old : PassList) (packet : WirePacket) (new : PassList) : Type 0 where
-  pub asked : ℕ
+  pub asked : ℕ → Bool
   pub mid : PassList
   pub vain : AsksInVain old mid asked
   pub from : ℕ

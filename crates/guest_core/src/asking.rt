@@ -80,6 +80,7 @@ impl Parts {
     {
         dues_fit();
         exchanges();
+        uses_change();
         laws();
         pages_stay();
         let place = self.course.skips.len() as u64;

@@ -13,7 +13,7 @@ use crate::laws::laws;
 use crate::parts::Parts;
 use base_words::{Event, MOST_PROCESSORS, VcpuId};
 use guest_course::Errand;
-use isolation_law::exchanges;
+use isolation_law::{exchanges, uses_change};
 use shootdown::{Note, ProcToken, note_many};
 
 impl Parts {
@@ -43,6 +43,7 @@ impl Parts {
         ensures ahead { StepsAhead (guest_of self.old) token.old vcpu result (guest_of self.new) token.new }
     {
         exchanges();
+        uses_change();
         laws();
         let processor = token.number();
         let few = most.min(self.entries_left());

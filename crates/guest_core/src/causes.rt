@@ -33,15 +33,15 @@ fn cause_to_migrate(course: &Course, wish: Wish) -> Option<SkipCause>
     None
 }
 
-/// Why a page can't have a replica on a node: it has a frame there, the nearest one.
+/// Why a page can't have a replica on a node: it has a frame there.
 fn cause_to_replicate(course: &Course, wish: Wish) -> Option<SkipCause>
     requires page { wish.page.0 < length course.now.pmap.pages }
     ensures { option_map cause_of result ≡ by_kind course.now.around.site.shape.frames Replicate wish.node.0 (page_at course.now.pmap.pages wish.page.0) }
 {
-    let nearest = course
+    if course
         .pmap
-        .nearest(wish.page, wish.node, &course.around.site.shape);
-    if lies_on(course, nearest, wish.node) {
+        .is_on(wish.page, wish.node, &course.around.site.shape)
+    {
         Some(SkipCause::SameNode)
     } else {
         None

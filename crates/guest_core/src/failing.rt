@@ -15,7 +15,7 @@ use crate::releasing::close;
 use crate::{Fate, Resources};
 use base_words::{CellId, End, Event};
 use guest_course::used_cells_end;
-use isolation_law::{exchanges, run_grows};
+use isolation_law::{exchanges, run_grows, uses_change};
 use shootdown::{Note, ProcToken, note};
 
 impl Parts {
@@ -84,6 +84,7 @@ impl Parts {
         ensures leaves { Leaves (guest_of self.old) token.old (told_of_failure cell (guest_of self.old).state.end Stays) (guest_of self.new) token.new }
     {
         exchanges();
+        uses_change();
         laws();
         let entry = Event::CellFails(cell);
         self.course.fail(cell);
@@ -105,6 +106,7 @@ impl Parts {
         ensures leaves { Leaves (guest_of self.old) token.old (told_of_failure cell (guest_of self.old).state.end WasEnded) (guest_of self.new) token.new }
     {
         exchanges();
+        uses_change();
         laws();
         let entry = Event::CellFails(cell);
         self.course.fail(cell);

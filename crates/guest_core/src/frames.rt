@@ -12,14 +12,14 @@ ghost use Rattle.isolation_law.specs.Surroundings.{home_cell as home_of};
 ghost use Rattle.guest_course.specs.CourseView.{state_of};
 ghost use Rattle.guest_course.specs.CourseRules.{IsSound};
 ghost use Rattle.guest_course.specs.SkipView.{wanting};
-ghost use Rattle.guest_core.specs.Frames.{ToGiveBack, HasTaken, HasTakenFor, TakesNone, Refuses, AreSpread};
+ghost use Rattle.guest_core.specs.Frames.{ToGiveBack, ToCountNoMore, HasTaken, HasTakenFor, TakesNone, Refuses, AreSpread};
 ghost use Rattle.guest_core.specs.Holding.{IsHolding, FitsAround, frames_around};
 ghost use Rattle.guest_core.specs.MoveCalls.{IsPlanned};
 ghost use Rattle.guest_core.specs.Using.{AreUses};
 
 use crate::releasing::home_cell;
 use crate::using::{count_frame, count_frame_no_more};
-use base_words::{Frame, MoveKind, NodeId, NodeList};
+use base_words::{Frame, FrameNo, MoveKind, NodeId, NodeList};
 use cell_depend::Uses;
 use frame_words::{FrameTable, Holder};
 use guest_course::{Course, Wish};
@@ -27,27 +27,30 @@ use node_frames::{FindFault, find, release};
 use pmap_table::{Change, Freed};
 use std::alloc::{AllocError, Global};
 
-/// Gives the frames back, with their loans, that a move has freed, and counts them no more.
-pub(crate) fn give_back(
-    course: &Course,
-    holder: &mut Holder,
-    uses: &mut Uses,
-    table: &FrameTable,
-    freed: Freed,
-)
+/// Gives the frames back, with their loans, that a move has freed.
+pub(crate) fn give_back(course: &Course, holder: &mut Holder, table: &FrameTable, freed: Freed)
     requires made { IsMade table.now holder.old }
     requires fits { FitsAround table.now (state_of course.now).around }
     requires at_home { (state_of course.now).around.home < length (state_of course.now).around.nodes }
-    requires freed { ToGiveBack (state_of course.now) freed holder.old.view uses.old }
+    requires freed { ToGiveBack (state_of course.now) freed holder.old.view }
     ensures holding { IsHolding (state_of course.now) holder.new.view }
-    ensures used { AreUses (state_of course.now) uses.new }
     ensures same { holder.new.table ≡ holder.old.table }
 {
     let home = home_cell(&course.around);
     let mut freed = freed;
     while let Some(frame) = freed.pop() {
         release(table, holder, &course.around.site.shape, home, frame);
-        count_frame_no_more(uses, &course.around, frame);
+    }
+}
+
+/// Counts the frame no more that ties the guest to a cell no longer once a move has ended, if there is one.
+pub(crate) fn count_untied(course: &Course, uses: &mut Uses, untied: Option<FrameNo>)
+    requires { ToCountNoMore (state_of course.now) untied uses.old }
+    ensures { AreUses (state_of course.now) uses.new }
+{
+    match untied {
+        Some(frame) => count_frame_no_more(uses, &course.around, frame),
+        None => {}
     }
 }
 

@@ -9,7 +9,7 @@ ghost use Rattle.guest_core.specs.Kept.{IsKept};
 ghost use Rattle.guest_core.specs.Making.{MakesAlone};
 ghost use Rattle.guest_core.specs.MoveCalls.{FinishesReady, StillActs};
 
-use crate::frames::give_back;
+use crate::frames::{count_untied, give_back};
 use crate::laws::laws;
 use crate::parts::Parts;
 use crate::{Ready, Resources};
@@ -36,6 +36,7 @@ impl Parts {
         ensures room { (guest_of self.old).room ≤ (guest_of self.new).room + 2 }
     {
         exchanges();
+        uses_change();
         laws();
         self.course.acknowledge(processor, page);
         self.journal.push(Event::Ack(processor, page));
@@ -62,14 +63,10 @@ impl Parts {
         exchanges();
         uses_change();
         laws();
+        let untied = self.course.pmap.untied(page);
         let freed = self.course.finish_move(page);
-        give_back(
-            &self.course,
-            &mut self.holder,
-            &mut self.uses,
-            resources.table,
-            freed,
-        );
+        give_back(&self.course, &mut self.holder, resources.table, freed);
+        count_untied(&self.course, &mut self.uses, untied);
         self.journal.push(Event::Finish(page));
     }
 

@@ -12,7 +12,7 @@ ghost use Rattle.guest_core.specs.Kept.{IsKept};
 ghost use Rattle.guest_core.specs.MoveCalls.{StillActs};
 ghost use Rattle.guest_core.specs.PacketCalls.{AfterHand, BeginsByHand, DiscardsNext, IsArmed, Fetches, KeepsEnds, ReceivesNext, SameSends, SharesPacket, TakesPacket};
 
-use crate::frames::give_back;
+use crate::frames::{count_untied, give_back};
 use crate::laws::laws;
 use crate::parts::Parts;
 use crate::sharing::hold_too;
@@ -72,6 +72,7 @@ impl Parts {
         ensures leaves { AfterHand (guest_of self.old) (guest_of self.new) }
     {
         exchanges();
+        uses_change();
         laws();
         let place = self.course.received.len() as u64;
         self.course.receive(alloc)?;
@@ -91,6 +92,7 @@ impl Parts {
         ensures leaves { AfterHand (guest_of self.old) (guest_of self.new) }
     {
         exchanges();
+        uses_change();
         laws();
         let place = self.course.discarded.len() as u64;
         self.course.discard(alloc)?;
@@ -99,13 +101,19 @@ impl Parts {
     }
 
     /// Ends the move by which the page that is armed is taken shared for the packet in hand: the frame that the packet hands on backs it.
-    fn end_delivery(&mut self, alloc: Global, resources: &Resources) -> Result<(), AllocError>
+    fn end_delivery(
+        &mut self,
+        alloc: Global,
+        page: Ppn,
+        resources: &Resources,
+    ) -> Result<(), AllocError>
         requires kept { IsKept self.old }
         requires shared { AreOf (shared_by resources.now) (guest_of self.old) }
         requires room { 2 ≤ (guest_of self.old).room }
         requires armed { IsArmed (guest_of self.old) }
         requires in_hand { (guest_of self.old).state.hand ≢ None }
         requires lives { HandLives (guest_of self.old).state }
+        requires page { (guest_of self.old).state.devices.armed ≡ Some page.0 }
         requires own { (q : ℕ) → (guest_of self.old).state.devices.armed ≡ Some q → IsOwnDelivery (guest_of self.old).state q }
         ensures kept { IsKept self.new }
         ensures received { OnOk result (ReceivesNext (guest_of self.old) (guest_of self.new)) }
@@ -116,14 +124,10 @@ impl Parts {
         uses_change();
         laws();
         let place = self.course.received.len() as u64;
+        let untied = self.course.pmap.untied_by_taking(page);
         let freed = self.course.end_delivery(alloc)?;
-        give_back(
-            &self.course,
-            &mut self.holder,
-            &mut self.uses,
-            resources.table,
-            freed,
-        );
+        give_back(&self.course, &mut self.holder, resources.table, freed);
+        count_untied(&self.course, &mut self.uses, untied);
         self.journal.push(Event::PacketIn(place));
         Ok(())
     }
@@ -189,6 +193,7 @@ impl Parts {
         ensures leaves { AfterHand (guest_of self.old) (guest_of self.new) }
     {
         exchanges();
+        uses_change();
         laws();
         self.course.begin_for_packet(page, kind);
         self.journal
@@ -216,7 +221,7 @@ impl Parts {
         ensures leaves { AfterHand (guest_of self.old) (guest_of self.new) }
     {
         if self.course.is_own_delivery(page) {
-            self.end_delivery(alloc, resources)?;
+            self.end_delivery(alloc, page, resources)?;
             return Ok(Packeted::Delivered);
         }
         match self.finish_ready(page, resources) {

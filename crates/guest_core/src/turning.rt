@@ -3,6 +3,7 @@ ghost use Rattle.std.specs.Prelude.{◌≡◌, ◌≢◌, ◌<◌, ◌≤◌, �
 ghost use Rattle.frame_words.specs.Holders.{IsMade};
 ghost use Rattle.isolation_law.specs.GuestState.{page as page_of, processor as processor_at};
 ghost use Rattle.base_words.specs.declared.events.Event.TheVariants.{Begin};
+ghost use Rattle.base_words.specs.declared.moves.MoveKind.TheVariants.{Collapse};
 ghost use Rattle.private_machine.specs.DeviceAct.{StoresTo};
 ghost use Rattle.isolation_law.specs.Phases.{all_halted, MayAct};
 ghost use Rattle.isolation_law.specs.StepAct.{at_hand};
@@ -13,7 +14,7 @@ ghost use Rattle.guest_course.specs.EmulateCalls.{LeavesAct};
 ghost use Rattle.guest_course.specs.EndCalls.{letting_go};
 ghost use Rattle.guest_course.specs.Packets.{SamePackets};
 ghost use Rattle.guest_course.specs.Hurdles.{ActIsFree, ActNeeds};
-ghost use Rattle.guest_course.specs.RefillCalls.{StaysNeeding};
+ghost use Rattle.guest_course.specs.RefillCalls.{StaysNeeding, StaysLosing};
 ghost use Rattle.guest_course.specs.StepCalls.{MayStep, TrapsFor};
 ghost use Rattle.guest_core.specs.Holding.{HasFrames, FitsAround};
 ghost use Rattle.guest_core.specs.GuestView.{entries_due, guest_of, AreOf, shared_by};
@@ -24,7 +25,7 @@ ghost use Rattle.guest_core.specs.TurnParts.{BeginsFor, CarriesOut, Concludes, M
 ghost use Rattle.guest_core.specs.Using.{AreUses};
 ghost use Rattle.guest_core.specs.declared.answers.Turn.TheVariants.{Stepped};
 
-use crate::frames::give_back;
+use crate::frames::{count_untied, give_back};
 use crate::laws::laws;
 use crate::parts::Parts;
 use crate::releasing::close;
@@ -136,6 +137,25 @@ impl Parts {
             .push(begin_entry(&self.course, page, kind, By::Step(processor)));
     }
 
+    /// Begins to collapse a page that the step at hand reached by a frame of a failed cell.
+    fn begin_lost(&mut self, processor: ProcId, vcpu: VcpuId, page: Ppn)
+        requires kept { IsKept self.old }
+        requires room { 2 ≤ (guest_of self.old).room }
+        requires may { MayStep (guest_of self.old).state processor.0 vcpu.0 }
+        requires loses { StaysLosing (guest_of self.old).state processor.0 vcpu.0 page.0 (guest_of self.old).state }
+        ensures kept { IsKept self.new }
+        ensures begins { BeginsFor (guest_of self.old) processor page Collapse (guest_of self.new) }
+        ensures quiet { Quietly (guest_of self.old) (guest_of self.new) }
+    {
+        exchanges();
+        uses_change();
+        laws();
+        self.course.begin_lost(processor, vcpu, page);
+        let kind = MoveKind::Collapse;
+        self.journal
+            .push(begin_entry(&self.course, page, kind, By::Step(processor)));
+    }
+
     /// Begins the move that a disk read needs of the page into which its block comes, where the read was left as an act.
     fn begin_read(
         &mut self,
@@ -239,14 +259,10 @@ impl Parts {
         uses_change();
         laws();
         let processor = token.number();
+        let untied = self.course.pmap.untied_by_taking(page);
         let freed = self.course.end_read(vcpu, act, page);
-        give_back(
-            &self.course,
-            &mut self.holder,
-            &mut self.uses,
-            resources.table,
-            freed,
-        );
+        give_back(&self.course, &mut self.holder, resources.table, freed);
+        count_untied(&self.course, &mut self.uses, untied);
         let entry = Event::Emulate(processor, vcpu);
         self.journal.push(entry);
         note(token, &mut self.seat, Note::Made(entry));
@@ -275,6 +291,7 @@ impl Parts {
         ensures unmade { OnErr result (Leaves (guest_of self.old) token.old [] (guest_of self.new) token.new) }
     {
         exchanges();
+        uses_change();
         laws();
         acts_take_memory();
         let processor = token.number();
@@ -360,6 +377,7 @@ impl Parts {
         ensures leaves { Leaves (guest_of self.old) token.old (told_of_turn (processor_of token.old) vcpu result) (guest_of self.new) token.new }
     {
         exchanges();
+        uses_change();
         laws();
         run_grows();
         let processor = token.number();
@@ -385,6 +403,10 @@ impl Parts {
             Entry::Waits(page) => Ok(self.meet(processor, vcpu, page, resources)),
             Entry::Needs(page, kind) => {
                 self.begin_store(processor, vcpu, page, kind);
+                Ok(Turn::Begun(page))
+            }
+            Entry::Lost(page) => {
+                self.begin_lost(processor, vcpu, page);
                 Ok(Turn::Begun(page))
             }
             Entry::Left(act) => self.act(rt, alloc, token, vcpu, act, resources),
@@ -413,6 +435,7 @@ impl Parts {
         ensures leaves { Leaves (guest_of self.old) token.old (told_of_turn (processor_of token.old) vcpu result) (guest_of self.new) token.new }
     {
         exchanges();
+        uses_change();
         laws();
         let processor = token.number();
         match self.course.step(processor, vcpu) {

@@ -21,7 +21,7 @@ use cell_depend::{
     vcpu_unloaded, vcpus_are_counted,
 };
 use guest_course::{Around, Course};
-use isolation_law::exchanges;
+use isolation_law::uses_change;
 use std::alloc::{AllocError, Global};
 
 /// So many cells are counted, as a machine has no more.
@@ -65,7 +65,7 @@ pub(crate) fn count_frame(uses: &mut Uses, around: &Around, frame: FrameNo)
     }
 }
 
-/// Counts a frame no more that was given back.
+/// Counts a frame no more that ties the guest to its cell no longer.
 pub(crate) fn count_frame_no_more(uses: &mut Uses, around: &Around, frame: FrameNo)
     requires within { frame.0 < around.now.site.shape.nodes * around.now.site.shape.frames }
     requires used { (s : GuestState) × (copies : List Copy) × (c : Copy) × (s.around ≡ surroundings around.now) × (c.frame ≡ frame.0) × CountsCopies s (copies ++ c ∷ []) uses.old }
@@ -112,7 +112,7 @@ pub(crate) fn count_unload(uses: &mut Uses, course: &Course, processor: ProcId)
     requires loaded { (processor_at (state_of course.now) processor.0).loaded ≢ None }
     ensures { (t : GuestState) → Unloads (state_of course.now) processor.0 t → AreUses t uses.new }
 {
-    exchanges();
+    uses_change();
     vcpu_unloaded();
     let cell = cell_of(course, processor);
     if cell.0 < CELLS {

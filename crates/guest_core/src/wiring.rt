@@ -5,7 +5,7 @@ ghost use Rattle.wire_queue.specs.Lines.{Fits};
 ghost use Rattle.wire_queue.specs.ListSteps.{AsksInVain, HasTaken, SameEnds};
 ghost use Rattle.wire_queue.specs.Packets.{packet_of};
 ghost use Rattle.wire_queue.specs.PassLists.{IsListOf, JoinsAll, sending_to, taking_from};
-ghost use Rattle.guest_core.specs.Wiring.{SentOn, TakesNext, TakenOn, others_in};
+ghost use Rattle.guest_core.specs.Wiring.{SentOn, TakesNext, TakenOn, is_other_in};
 
 use base_words::GuestId;
 use guest_course::Outgoing;
@@ -75,7 +75,7 @@ impl Wiring {
         requires is_guest { self.old.passes.guest.0 < guest_count wires.now }
         requires within { (first ≤ end) × (end ≤ guest_count wires.now) }
         ensures list { IsListOf wires.now self.new.passes }
-        ensures none { IfNone result (AsksInVain self.old.passes self.new.passes (others_in self.old.passes.guest.0 first end)) }
+        ensures none { IfNone result (AsksInVain self.old.passes self.new.passes (is_other_in self.old.passes.guest.0 first end)) }
         ensures some { IfSome result (λ packet. TakesNext self.old.passes packet self.new.passes) }
         ensures wires { self.new.wires ≡ self.old.wires }
     {

@@ -17,6 +17,8 @@ use Rattle.private_machine.specs.Policy.{no_misses}
 use Rattle.guest_devs.specs.DeviceState.{DeviceState, fresh}
 use Rattle.page_policy.specs.Pages.{AreCounters}
 use Rattle.pmap_table.specs.BackedPages.{own_page}
+use Rattle.private_machine.specs.RegisterPage.{has_page}
+use Rattle.isolation_law.specs.Mirrors.{blocks_for}
 use Rattle.isolation_law.specs.Surroundings.{Surroundings, node_of_processor}
 use Rattle.isolation_law.specs.GuestState.{idle}
 use Rattle.isolation_law.specs.Parts.{Processor}
@@ -91,6 +93,7 @@ free-stand around frames k (n ∷ nodes) same below told = (
 pub record Booted (c : Course) (around : Around) (entry vcpus : ℕ) (frames : List Frame) (disk : List Block) (input : List InputEntry) : Type 0 where
   pub around_is : c.around ≡ around
   pub vcpus_are : c.vcpus.items ≡ replicate vcpus (started entry)
+  pub blocks_are : c.blocks.items ≡ blocks_for (has_page around.profile) (replicate vcpus (started entry))
   pub devs : c.devs.state ≡ fresh vcpus (length frames) input
   pub disk_is : c.disk ≡ disk
   pub pages : c.pmap.pages ≡ map own_page frames
@@ -128,6 +131,7 @@ booted-state c around entry vcpus frames disk input may b =
     λ i. record {
       around = surroundings (b.around_is i);
       vcpus = b.vcpus_are i;
+      blocks = b.blocks_are i;
       devices = (b.devs i).page;
       disk = blocks i;
       sent_from = map (λ x. x.0) (b.sent_from i);
@@ -180,6 +184,7 @@ booted-sound c around entry vcpus frames disk input may b w =
       sized = record {
         some_vcpus = subst (λ (n : ℕ). 0 < n) (sym count) may.some_vcpus;
         few_vcpus = subst (λ (n : ℕ). n ≤ 4) (sym count) may.few_vcpus;
+        blocks = ap length b.blocks_are ∙ length-map (replicate vcpus (started entry)) _ ∙ length-replicate vcpus (started entry) ∙ sym count;
         transfers = ap (λ (d : DeviceState). length d.page.transfers) b.devs ∙ length-replicate vcpus nothing_set ∙ sym count;
         seconds = ap length b.seconds ∙ length-replicate vcpus no_seconds ∙ sym count;
         few_processors = subst (λ (n : ℕ). n ≤ most_processors) (sym place_count) may.few_processors;

@@ -15,12 +15,12 @@ use Rattle.isolation_law.specs.GuestState.{GuestState, page}
 use Rattle.isolation_law.specs.Content.{content}
 use Rattle.isolation_law.specs.Needs.{none_of, for_change}
 use Rattle.isolation_law.specs.StepAct.{at_hand}
-use Rattle.isolation_law.specs.StepRows.{IsEmulated, Emulates}
+use Rattle.isolation_law.specs.StepRows.{IsEmulated}
 use Rattle.guest_course.specs.declared.task.Task.{Task}
 use Rattle.guest_course.specs.declared.task.Task.TheVariants as tasks
 use Rattle.guest_course.specs.CourseRules.{IsWritable}
 use Rattle.guest_course.specs.Tasks.{read_task, write_task, IsThere, MayRead}
-use Rattle.guest_course.proofs.TaskRows.{passed_by, joined-pages, joined-disk, joined-transfer, task_done, left-row, Ticks, set_by}
+use Rattle.guest_course.proofs.TaskRows.{passed_by, joined-pages, joined-disk, joined-transfer, EmulatesBy, left-row, Ticks, set_by}
 
 -- the status of a disk command is the same once the input has joined and the instruction is passed
 same-status : (m n : PrivateMachine) (t u : Transfer) (command : ℕ) → n.disk ≡ m.disk → n.pages ≡ m.pages → u ≡ t → disk_status n u command ≡ disk_status m t command
@@ -55,7 +55,7 @@ command-does s v command stores =
 -- a command that isn't carried out
 refused-row : (s : GuestState) (p v command : ℕ) → Ticks → IsEmulated s p v → interrupts (vcpu (joined (content s) v) v).cp0 ≡ false
     → Stores (joined (content s) v) v (attempted (joined (content s) v) v) (at_hand s v) command DiskCommand
-    → (status s v command == 0) ≡ false → Emulates s p v (task_done s v (tasks.Refuse (status s v command)))
+    → (status s v command == 0) ≡ false → EmulatesBy s p v (tasks.Refuse (status s v command))
 refused-row s p v command ticks traps off stores is =
     let m = content s in
     let n = passed_by m v in
@@ -70,7 +70,7 @@ needs-none s q may = λ i. if may.own i then Some (record { page = q; kind = Bre
 
 read-row : (s : GuestState) (p v : ℕ) → Ticks → IsEmulated s p v → interrupts (vcpu (joined (content s) v) v).cp0 ≡ false
     → Stores (joined (content s) v) v (attempted (joined (content s) v) v) (at_hand s v) 1 DiskCommand
-    → IsWritable (page s (set_by s v).page) → (status s v 1 == 0) ≡ true → Emulates s p v (task_done s v (tasks.Read (set_by s v).block (record { 0 = (set_by s v).page })))
+    → IsWritable (page s (set_by s v).page) → (status s v 1 == 0) ≡ true → EmulatesBy s p v (tasks.Read (set_by s v).block (record { 0 = (set_by s v).page }))
 read-row s p v ticks traps off stores may is =
     let m = content s in
     let n = passed_by m v in
@@ -81,7 +81,7 @@ read-row s p v ticks traps off stores may is =
 
 write-row : (s : GuestState) (p v : ℕ) → Ticks → IsEmulated s p v → interrupts (vcpu (joined (content s) v) v).cp0 ≡ false
     → Stores (joined (content s) v) v (attempted (joined (content s) v) v) (at_hand s v) 2 DiskCommand
-    → (status s v 2 == 0) ≡ true → Emulates s p v (task_done s v (tasks.Write (set_by s v).block (record { 0 = (set_by s v).page })))
+    → (status s v 2 == 0) ≡ true → EmulatesBy s p v (tasks.Write (set_by s v).block (record { 0 = (set_by s v).page }))
 write-row s p v ticks traps off stores is =
     let m = content s in
     let n = passed_by m v in
@@ -93,19 +93,19 @@ write-row s p v ticks traps off stores is =
 -- a read and a write, whatever their status
 pub read-task-row : (s : GuestState) (p v : ℕ) (task : Task) → Ticks → IsEmulated s p v → interrupts (vcpu (joined (content s) v) v).cp0 ≡ false
     → Stores (joined (content s) v) v (attempted (joined (content s) v) v) (at_hand s v) 1 DiskCommand
-    → MayRead s.pages task → IsThere (length s.disk) (length s.pages) task → task ≡ read_task (set_by s v) (status s v 1) → Emulates s p v (task_done s v task)
+    → MayRead s.pages task → IsThere (length s.disk) (length s.pages) task → task ≡ read_task (set_by s v) (status s v 1) → EmulatesBy s p v task
 read-task-row s p v task ticks traps off stores may there is = by (status s v 1 == 0) refl is
   where
-    by : (b : Bool) → (status s v 1 == 0) ≡ b → task ≡ (if b then tasks.Read (set_by s v).block (record { 0 = (set_by s v).page }) else tasks.Refuse (status s v 1)) → Emulates s p v (task_done s v task)
+    by : (b : Bool) → (status s v 1 == 0) ≡ b → task ≡ (if b then tasks.Read (set_by s v).block (record { 0 = (set_by s v).page }) else tasks.Refuse (status s v 1)) → EmulatesBy s p v task
     by true e is =
-        subst (λ (x : Task). Emulates s p v (task_done s v x)) (sym is) (read-row s p v ticks traps off stores (subst (MayRead s.pages) is may) e)
-    by false e is = subst (λ (x : Task). Emulates s p v (task_done s v x)) (sym is) (refused-row s p v 1 ticks traps off stores e)
+        subst (λ (x : Task). EmulatesBy s p v x) (sym is) (read-row s p v ticks traps off stores (subst (MayRead s.pages) is may) e)
+    by false e is = subst (λ (x : Task). EmulatesBy s p v x) (sym is) (refused-row s p v 1 ticks traps off stores e)
 
 pub write-task-row : (s : GuestState) (p v : ℕ) (task : Task) → Ticks → IsEmulated s p v → interrupts (vcpu (joined (content s) v) v).cp0 ≡ false
     → Stores (joined (content s) v) v (attempted (joined (content s) v) v) (at_hand s v) 2 DiskCommand
-    → task ≡ write_task (set_by s v) (status s v 2) → Emulates s p v (task_done s v task)
+    → task ≡ write_task (set_by s v) (status s v 2) → EmulatesBy s p v task
 write-task-row s p v task ticks traps off stores is = by (status s v 2 == 0) refl is
   where
-    by : (b : Bool) → (status s v 2 == 0) ≡ b → task ≡ (if b then tasks.Write (set_by s v).block (record { 0 = (set_by s v).page }) else tasks.Refuse (status s v 2)) → Emulates s p v (task_done s v task)
-    by true e is = subst (λ (x : Task). Emulates s p v (task_done s v x)) (sym is) (write-row s p v ticks traps off stores e)
-    by false e is = subst (λ (x : Task). Emulates s p v (task_done s v x)) (sym is) (refused-row s p v 2 ticks traps off stores e)
+    by : (b : Bool) → (status s v 2 == 0) ≡ b → task ≡ (if b then tasks.Write (set_by s v).block (record { 0 = (set_by s v).page }) else tasks.Refuse (status s v 2)) → EmulatesBy s p v task
+    by true e is = subst (λ (x : Task). EmulatesBy s p v x) (sym is) (write-row s p v ticks traps off stores e)
+    by false e is = subst (λ (x : Task). EmulatesBy s p v x) (sym is) (refused-row s p v 2 ticks traps off stores e)

@@ -85,6 +85,7 @@ noted-remade c m q x sound on n =
         transfers = ap (λ (y : DeviceState). length y.page.transfers) n.devs ∙ sound.sized.transfers ∙ sym vcpus;
         agree = n.agree;
       };
+      blocks = ap (λ (y : Course). length y.blocks.items) n.same;
       seconds = ap (λ (y : Course). length y.seconds.items) n.same;
       places = ap (λ (y : Course). length y.places.items) n.same;
       due = ap (λ (y : Course). length y.due.items) n.same;
@@ -104,6 +105,7 @@ kept-remade c n d x m k =
       cells = ap (λ (y : Course). length y.sent_from.items) k.same ∙ m.cells ∙ ap (λ (y : Course). length y.devs.state.page.sent) (sym k.same);
       vcpus = ap (λ (y : Course). length y.vcpus.items) k.same ∙ m.vcpus;
       fits = rw (ap (λ (y : Course). y.vcpus) k.same, ap (λ (y : Course). y.devs) k.same, ap (λ (y : Course). y.pmap) k.same) m.fits;
+      blocks = ap (λ (y : Course). length y.blocks.items) k.same ∙ m.blocks;
       seconds = ap (λ (y : Course). length y.seconds.items) k.same ∙ m.seconds;
       places = ap (λ (y : Course). length y.places.items) k.same ∙ m.places;
       due = ap (λ (y : Course). length y.due.items) k.same ∙ m.due;

@@ -207,6 +207,7 @@ ends-sound c d end sound same pages dues =
       sized = record {
         some_vcpus = sized.some_vcpus;
         few_vcpus = sized.few_vcpus;
+        blocks = sized.blocks;
         transfers = sized.transfers;
         seconds = sized.seconds;
         few_processors = sized.few_processors;

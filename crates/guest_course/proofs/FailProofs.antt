@@ -37,6 +37,7 @@ fails-sound c cell dead sound cells w =
       sized = record {
         some_vcpus = sized.some_vcpus;
         few_vcpus = sized.few_vcpus;
+        blocks = sized.blocks;
         transfers = sized.transfers;
         seconds = sized.seconds;
         few_processors = sized.few_processors;

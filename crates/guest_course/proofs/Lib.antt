@@ -1,4 +1,5 @@
 pub mod LinkLemmas
+pub mod AlikeLemmas
 pub mod BetweenLemmas
 pub mod JoinLemmas
 pub mod MoveProofs
@@ -7,6 +8,7 @@ pub mod ShownLemmas
 pub mod DirectRow
 pub mod LengthLemmas
 pub mod VecLemmas
+pub mod PagingLemmas
 pub mod PlaceLemmas
 pub mod NeededProofs
 pub mod SkipProofs

@@ -1,68 +1,113 @@
--- What a guest uses that goes on, and so lies in no cell that has failed.
-use Rattle.std.proofs.Common.{◌≡◌, ℕ, zero, suc, ◌≢◌, ◌<◌, false, List, [], ◌∷◌, ◌++◌, Some, Err, flat_map, length, get_or, inl, inr, ⊎_elim, refl, sym, ap, ◌∙◌, subst, arith}
+-- What a guest uses that goes on, and so lies in no cell that has failed; and a frame that does, for which the hardware traps.
+use Rattle.std.proofs.Common.{◌≡◌, ℕ, ◌<◌, None, Result, refl, List, [], ◌∷◌, ◌++◌, Err, flat_map, length, get_or, inl, inr, sym, ap, ◌∙◌, subst}
+use Rattle.base_words.specs.Halves.{Half}
 use Rattle.base_words.specs.Membership.{Has}
-use Rattle.private_machine.specs.Backing.{Copy, Page, copies, no_page}
-use Rattle.private_machine.specs.HardwareStep.{Dead}
-use Rattle.private_machine.specs.PageMove.{target_in, used_for}
+use Rattle.base_words.specs.declared.ids.FrameNo.{FrameNo}
+use Rattle.base_words.specs.declared.trap.TrapCause.{TrapCause}
+use Rattle.base_words.specs.declared.trap.TrapCause.TheVariants as causes
+use Rattle.hw_tlb.specs.Tlb.{halves}
+use Rattle.private_machine.specs.Backing.{Copy, page_at, copies}
+use Rattle.private_machine.specs.HardwareStep.{Trap, Line, FetchMiss, DataMiss, ReadOnly, Address, Privileged, Raised, Dead, Done, cause_of}
+use Rattle.private_machine.specs.PageMove.{used_for}
 use Rattle.private_machine.specs.Reaching.{Reached, Wanted}
-use Rattle.std.specs.Option.{option_and_then, option_to_list}
 use Rattle.isolation_law.specs.CellUse.{used_frames}
-use Rattle.isolation_law.specs.Coherence.{Coherent}
-use Rattle.isolation_law.specs.DirectStep.{sight, with_inputs}
-use Rattle.isolation_law.specs.GuestState.{GuestState, page, processor, vcpu_of, is_dead}
-use Rattle.isolation_law.specs.LiveCells.{UsesLive}
-use Rattle.isolation_law.specs.Phases.{GoesOn}
-use Rattle.isolation_law.specs.Surroundings.{cell_of_frame}
+use Rattle.isolation_law.specs.GuestState.{GuestState, processor}
+use Rattle.isolation_law.specs.Needs.{for_lost}
+use Rattle.isolation_law.specs.Parts.{Processor}
 use Rattle.isolation_law.specs.Traps.{step_on}
-use Rattle.guest_course.specs.StepCalls.{ReachesNoneLost, MayStep}
-use Rattle.guest_course.proofs.TrapLemmas.{never-dead}
+use Rattle.guest_course.specs.declared.place.Place.{Place}
 use Rattle.guest_course.specs.declared.course.Course.{Course}
-use Rattle.guest_course.specs.CourseView.{state_of}
+use Rattle.guest_course.specs.CourseView.{processor_of, state_of}
 use Rattle.guest_course.specs.CourseRules.{IsSound}
-
-has-left : (cs ds : List Copy) (x : Copy) → Has cs x → Has (cs ++ ds) x
-has-left [] ds x has = absurd has
-has-left (c ∷ cs) ds x has = ⊎_elim (λ (is : c ≡ x). inl is) (λ later. inr (has-left cs ds x later)) has
+use Rattle.guest_course.specs.StepCalls.{LosesPage, MayStep, ReachesNoneLost, TrapsFor}
+use Rattle.guest_course.proofs.PlaceLemmas.{loaded-below}
+use Rattle.guest_course.proofs.RebackLemmas.{processor-at}
 
 has-right : (cs ds : List Copy) (x : Copy) → Has ds x → Has (cs ++ ds) x
 has-right [] ds x has = has
 has-right (c ∷ cs) ds x has = inr (has-right cs ds x has)
 
-has-flat : (gs : List Page) (q : ℕ) (x : Copy) → q < length gs → Has (used_for (get_or gs q no_page)) x → Has (flat_map used_for gs) x
-has-flat [] q x lt has = absurd (omega arith)
-has-flat (g ∷ gs) zero x lt has = has-left (used_for g) (flat_map used_for gs) x has
-has-flat (g ∷ gs) (suc q) x lt has = has-right (used_for g) (flat_map used_for gs) x (has-flat gs q x (omega arith) has)
-
--- a page's copies are used, and so are the spares
-pub copy-used : (s : GuestState) (q : ℕ) (x : Copy) → q < length s.pages → Has (copies (page s q)) x → Has (used_frames s) x
-copy-used s q x lt has =
-    has-left (flat_map used_for s.pages) s.spares x (has-flat s.pages q x lt (has-left (copies (page s q)) (option_to_list (option_and_then target_in (page s q).move)) x has))
-
+-- the spares are used
 pub last-used : (s : GuestState) (rest : List Copy) (x : Copy) → s.spares ≡ rest ++ x ∷ [] → Has (used_frames s) x
 last-used s rest x is = has-right (flat_map used_for s.pages) s.spares x (subst (λ (l : List Copy). Has l x) (sym is) (has-right rest (x ∷ []) x (inl refl)))
 
--- what is told of used frames
-abbrev pub UsedLive : Type 0
-UsedLive = (s : GuestState) (c : Copy) → UsesLive s → GoesOn s → Has (used_frames s) c → is_dead s (cell_of_frame s.around c.frame) ≡ false
+-- ---- frames of failed cells
 
--- and of a frame of a failed cell for which the hardware traps
-abbrev pub LostFrame : Type 0
-LostFrame = (s : GuestState) (p v : ℕ) (at : Reached) (w : Wanted) → Coherent s → UsesLive s → GoesOn s → (processor s p).loaded ≡ Some v → step_on s p v ≡ Err (Dead at w) → (c : Copy) × Has (page s at.page).replicas c × (c.frame ≡ at.frame)
+same-trap : (a b : Trap) → ◌≡◌ {A = Result Done Trap} (Err a) (Err b) → a ≡ b
+same-trap a b e = cc
 
-abbrev pub LostPage : Type 0
-LostPage = (s : GuestState) (p v : ℕ) (at : Reached) (w : Wanted) → Coherent s → UsesLive s → GoesOn s → (processor s p).loaded ≡ Some v → step_on s p v ≡ Err (Dead at w) → (at.page < length s.pages) × ((page s at.page).shared ≡ false) × ((page s at.page).replicas ≢ [])
+-- a processor that trapped for another cause traps for none
+pub none-dead : (s : GuestState) (p v : ℕ) (cause : TrapCause) → TrapsFor s p v cause → ((frame : FrameNo) → cause ≡ causes.Dead frame → ⊥) → ReachesNoneLost s p v
+none-dead s p v cause x other there w is =
+    other (record { 0 = there.frame }) (sym x.told ∙ ap cause_of (same-trap x.trap (Dead there w) (sym x.traps ∙ is)))
 
--- so it traps for none
-pub none-reached : UsedLive → LostPage → LostFrame → (s : GuestState) (p v : ℕ) → Coherent s → UsesLive s → GoesOn s → (processor s p).loaded ≡ Some v → ReachesNoneLost s p v
-none-reached used there frame s p v co live on loaded at w is =
-    let it = frame s p v at w co live on loaded is in
-    let alive = used s it.0 live on (copy-used s at.page it.0 (there s p v at w co live on loaded is).0 (inr it.1)) in
-    let u = with_inputs s v in
-    never-dead (sight u p v) u.pages (vcpu_of u v).registers at w (ap (λ (n : ℕ). is_dead s (cell_of_frame s.around n)) (sym it.2) ∙ alive) is
+-- so no page has to be collapsed
+pub kept-live : (s : GuestState) (p v : ℕ) (trap : Trap) → ReachesNoneLost s p v → step_on s p v ≡ Err trap → for_lost s trap ≡ None
+kept-live s p v Line live is = refl
+kept-live s p v (FetchMiss w) live is = refl
+kept-live s p v (DataMiss word w) live is = refl
+kept-live s p v (ReadOnly word w) live is = refl
+kept-live s p v (Address word) live is = refl
+kept-live s p v (Privileged word) live is = refl
+kept-live s p v (Raised x) live is = refl
+kept-live s p v (Dead there w) live is = absurd (live there w is)
 
--- what is told of that
-abbrev pub NoneLost : Type 0
-NoneLost = (s : GuestState) (p v : ℕ) → Coherent s → UsesLive s → GoesOn s → (processor s p).loaded ≡ Some v → ReachesNoneLost s p v
+-- a trap that is told as one for such a frame
+pub record IsFor (trap : Trap) (frame : FrameNo) : Type 0 where
+  pub at : Reached
+  pub access : Wanted
+  pub is_dead : trap ≡ Dead at access
+  pub frame_is : at.frame ≡ frame.0
 
-pub reaches-none : NoneLost → (c : Course) (p v : ℕ) → IsSound c → MayStep (state_of c) p v → ReachesNoneLost (state_of c) p v
-reaches-none law c p v sound may = let going = sound.going may.goes_on.not_ended in law (state_of c) p v going.coherent going.live may.goes_on may.runs.loaded
+pub dead-trap : (trap : Trap) (frame : FrameNo) → cause_of trap ≡ causes.Dead frame → IsFor trap frame
+dead-trap Line frame e = absurd cc
+dead-trap (FetchMiss w) frame e = absurd cc
+dead-trap (DataMiss word w) frame e = absurd cc
+dead-trap (ReadOnly word w) frame e = absurd cc
+dead-trap (Address word) frame e = absurd cc
+dead-trap (Privileged word) frame e = absurd cc
+dead-trap (Raised x) frame e = absurd cc
+dead-trap (Dead at w) frame e = record { at = at; access = w; is_dead = refl; frame_is = cc }
+
+-- a half of the processor's TLB that names the frame names a page of which it is one
+pub record NamesLost (c : Course) (p v q : ℕ) : Type 0 where
+  pub is_page : q < length c.pmap.pages
+  pub loses : LosesPage (state_of c) p v q
+
+pub names-lost : (c : Course) (p v : ℕ) (frame : FrameNo) (x : Place) (q : ℕ) → IsSound c → MayStep (state_of c) p v → TrapsFor (state_of c) p v (causes.Dead frame) → x ≡ get_or c.places.items p x
+    → (h : Half) → Has (halves x.tlb) h → h.frame ≡ frame.0 → h.page ≡ q → NamesLost c p v q
+names-lost c p v frame x q sound may why at h has frame_is page_is =
+    let s = state_of c in
+    let co = (sound.going may.goes_on.not_ended).coherent in
+    let here : processor s p ≡ processor_of x = processor-at c.places.items p x (loaded-below c.places.items p v may.runs.loaded) at in
+    let there : Has (processor s p).tlb h = subst (λ (y : Processor). Has y.tlb h) (sym here) has in
+    let backed = (co.consistent.on_page p h there).backed in
+    let dead = dead-trap why.trap frame why.told in
+    record {
+      is_page = subst (λ (n : ℕ). n < length c.pmap.pages) page_is (co.consistent.within p h there);
+      loses = record {
+        trap = why.trap;
+        traps = why.traps;
+        loses = record {
+          at = dead.at;
+          access = dead.access;
+          is_dead = dead.is_dead;
+          copy = backed.0;
+          its_own = subst (λ (n : ℕ). Has (copies (page_at c.pmap.pages n)) backed.0) page_is backed.1;
+          is_it = backed.2 ∙ frame_is ∙ sym dead.frame_is;
+        };
+      };
+    }
+
+-- and there is such a half
+abbrev pub LostHalf : Type 0
+LostHalf = (s : GuestState) (p v : ℕ) (at : Reached) (w : Wanted) → step_on s p v ≡ Err (Dead at w) → (h : Half) × Has (processor s p).tlb h × (h.page ≡ at.page) × (h.frame ≡ at.frame)
+
+pub some-half : LostHalf → (c : Course) (p v : ℕ) (frame : FrameNo) (x : Place) → MayStep (state_of c) p v → TrapsFor (state_of c) p v (causes.Dead frame) → x ≡ get_or c.places.items p x
+    → ((h : Half) → Has (halves x.tlb) h → h.frame ≡ frame.0 → ⊥) → ⊥
+some-half law c p v frame x may why at none =
+    let s = state_of c in
+    let here : processor s p ≡ processor_of x = processor-at c.places.items p x (loaded-below c.places.items p v may.runs.loaded) at in
+    let dead = dead-trap why.trap frame why.told in
+    let half = law s p v dead.at dead.access (why.traps ∙ ap Err dead.is_dead) in
+    none half.0 (subst (λ (y : Processor). Has y.tlb half.0) here half.1) (half.3 ∙ dead.frame_is)

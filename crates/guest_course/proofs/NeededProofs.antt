@@ -23,10 +23,10 @@ use Rattle.isolation_law.specs.Coherence.{Coherent}
 use Rattle.isolation_law.specs.Content.{content}
 use Rattle.isolation_law.specs.Traps.{step_on}
 use Rattle.private_machine.specs.PageMove.{kind_of, target_of}
-use Rattle.isolation_law.specs.GuestState.{GuestState, page, processor, hand_place}
+use Rattle.isolation_law.specs.GuestState.{GuestState, page, hand_place}
 use Rattle.isolation_law.specs.MoveRows.{Asks, Begins, Fits, LiesAlive, TakesSpare, with_begun}
 use Rattle.isolation_law.specs.Needs.{Need, needed, for_change, none_of, may_share_block, may_offer}
-use Rattle.isolation_law.specs.Phases.{GoesOn}
+use Rattle.isolation_law.specs.Phases.{GoesOn, Runs}
 use Rattle.isolation_law.specs.StepAct.{at_hand}
 use Rattle.wire_queue.specs.declared.packet.WirePacket.{WirePacket}
 use Rattle.guest_course.specs.declared.course.Course.{Course}
@@ -38,7 +38,7 @@ use Rattle.guest_course.specs.Posting.{to_give}
 use Rattle.guest_course.specs.Hurdles.{NeedsMove}
 use Rattle.guest_course.specs.MoveCalls.{home_wish}
 use Rattle.guest_course.specs.Rebacking.{Rebacked}
-use Rattle.guest_course.specs.RefillCalls.{ReachesPage, StaysNeeding}
+use Rattle.guest_course.specs.RefillCalls.{ReachesPage, StaysNeeding, StaysLosing}
 use Rattle.guest_course.specs.StepCalls.{MayStep, ReachesNoneLost}
 use Rattle.guest_course.specs.Tasks.{read_page}
 use Rattle.guest_course.proofs.HurdleLemmas.{never-some}
@@ -47,11 +47,11 @@ use Rattle.guest_course.specs.ReceivingCalls.{HandLives}
 
 -- what is told of stores through halves that aren't writable
 abbrev pub ReadOnlyStores : Type 0
-ReadOnlyStores = (s : GuestState) (p v word : ℕ) (w : Wanted) (offset : ℕ) → Coherent s → (processor s p).loaded ≡ Some v → step_on s p v ≡ Err (ReadOnly word w) → led (content s) v w.unit w.purpose w.address ≡ Ok (Memory offset) → at_hand s v ≡ StoresTo (offset / 4096)
+ReadOnlyStores = (s : GuestState) (p v word : ℕ) (w : Wanted) (offset : ℕ) → Coherent s → Runs s p v → step_on s p v ≡ Err (ReadOnly word w) → led (content s) v w.unit w.purpose w.address ≡ Ok (Memory offset) → at_hand s v ≡ StoresTo (offset / 4096)
 
 -- a store that the guest grants on a page is what the step at hand does with it
-pub stores-at-hand : ReadOnlyStores → (s : GuestState) (p v q : ℕ) → Coherent s → ReachesNoneLost s p v → (processor s p).loaded ≡ Some v → (r : ReachesPage s p v q) → missed_access r.trap ≡ None → at_hand s v ≡ StoresTo q
-stores-at-hand law s p v q co live loaded r missed = by r.trap r.is_it r.traps missed
+pub stores-at-hand : ReadOnlyStores → (s : GuestState) (p v q : ℕ) → Coherent s → ReachesNoneLost s p v → Runs s p v → (r : ReachesPage s p v q) → missed_access r.trap ≡ None → at_hand s v ≡ StoresTo q
+stores-at-hand law s p v q co live runs r missed = by r.trap r.is_it r.traps missed
   where
     by : (trap : Trap) → trapped_access trap ≡ Some r.access → step_on s p v ≡ Err trap → missed_access trap ≡ None → at_hand s v ≡ StoresTo q
     by Line e is miss = cc
@@ -59,18 +59,28 @@ stores-at-hand law s p v q co live loaded r missed = by r.trap r.is_it r.traps m
     by (DataMiss word w) e is miss = cc
     by (ReadOnly word w) e is miss =
         let same : w ≡ r.access = cc in
-        law s p v word w r.offset co loaded is (ap (λ (z : Wanted). led (content s) v z.unit z.purpose z.address) same ∙ r.leads) ∙ ap StoresTo (sym r.page_is)
+        law s p v word w r.offset co runs is (ap (λ (z : Wanted). led (content s) v z.unit z.purpose z.address) same ∙ r.leads) ∙ ap StoresTo (sym r.page_is)
     by (Address word) e is miss = cc
     by (Privileged word) e is miss = cc
     by (Raised x) e is miss = cc
     by (Dead there w) e is miss = absurd (live there w is)
 
 -- who asks for it: the store at hand
-pub needed-asks : ReadOnlyStores → (c : Course) (p : ProcId) (v q : ℕ) (kind : MoveKind) → ReachesNoneLost (state_of c) p.0 v → IsSound c → MayStep (state_of c) p.0 v → StaysNeeding (state_of c) p.0 v q kind (state_of c) → Asks (state_of c) (Step p) (home_wish (state_of c) q kind) None
-needed-asks law c p v q kind live sound may n =
+pub needed-asks : ReadOnlyStores → (c : Course) (p : ProcId) (v q : ℕ) (kind : MoveKind) → IsSound c → MayStep (state_of c) p.0 v → StaysNeeding (state_of c) p.0 v q kind (state_of c) → Asks (state_of c) (Step p) (home_wish (state_of c) q kind) None
+needed-asks law c p v q kind sound may n =
     let s = state_of c in
-    let acts = stores-at-hand law s p.0 v q (sound.going may.goes_on.not_ended).coherent live may.runs.loaded n.reaches n.stores in
+    let acts = stores-at-hand law s p.0 v q (sound.going may.goes_on.not_ended).coherent n.alive may.runs n.reaches n.stores in
     record { v = v; runs = may.runs; shares = false; needs = inl (ap (needed s v false) acts ∙ n.needs.needs); at_home = refl }
+
+-- or the frame of a failed cell by which it reached the page
+pub lost-asks : (s : GuestState) (p : ProcId) (v q : ℕ) → MayStep s p.0 v → StaysLosing s p.0 v q s → Asks s (Step p) (home_wish s q Collapse) None
+lost-asks s p v q may n = record {
+  v = v;
+  runs = may.runs;
+  shares = false;
+  needs = inr (record { trap = n.loses.trap; traps = n.loses.traps; loses = n.loses.loses; is_collapse = refl; for_none = refl });
+  at_home = refl;
+}
 
 -- the disk read at hand
 pub left-asks : (s : GuestState) (p : ProcId) (v q : ℕ) (act : DevAct) (kind : MoveKind) → LeavesAct s p.0 v act s → read_page s v act ≡ Some q → NeedsMove s q kind → Asks s (Step p) (home_wish s q kind) None
@@ -158,6 +168,7 @@ is-there s q kind needs = elim (cases_lt q (length s.pages)) [
 pub rebacked-spared : (c m d : Course) → m ≡ record c { pmap = m.pmap } → m.pmap.pages ≡ c.pmap.pages → Rebacked m d → Rebacked c d
 rebacked-spared c m d same pages r = record {
   vcpus = r.vcpus ∙ ap (λ (y : Course). y.vcpus) same;
+  blocks = r.blocks ∙ ap (λ (y : Course). y.blocks) same;
   devs = r.devs ∙ ap (λ (y : Course). y.devs) same;
   around = r.around ∙ ap (λ (y : Course). y.around) same;
   counted = λ ps ns is. r.counted ps ns (rw (ap (λ (y : Course). y.counters) same) is);

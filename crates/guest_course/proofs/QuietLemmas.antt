@@ -1,26 +1,29 @@
 -- Steps before which nothing comes, and what a step leaves of that.
-use Rattle.std.proofs.Common.{◌≡◌, ℕ, zero, suc, ◌<◌, ◌≤◌, ◌+◌, ◌-◌, Bool, true, false, Option, List, [], ◌∷◌, length, get_or, refl, sym, ap, ◌∙◌, subst, arith}
+use Rattle.std.proofs.Common.{◌≡◌, ℕ, zero, suc, ◌<◌, ◌≤◌, ◌+◌, ◌-◌, Bool, true, false, Option, None, List, [], ◌∷◌, length, get_or, refl, sym, ap, ◌∙◌, subst, arith}
 use Rattle.base_words.specs.declared.coprocessor.Cp0Registers.{Cp0Registers}
-use Rattle.base_words.specs.Coprocessor.{interrupts, line_set, in_user_mode}
+use Rattle.base_words.specs.Coprocessor.{interrupts, line_set, in_user_mode, ticked}
 use Rattle.base_words.specs.Halves.{Half}
-use Rattle.mips_cp0.specs.Quiet.{IsQuiet}
+use Rattle.mips_cp0.specs.Quiet.{IsQuiet, ticked_often}
+use Rattle.private_machine.specs.declared.register_page.RegBlock.{RegBlock}
 use Rattle.private_machine.specs.declared.vcpu.Vcpu.{Vcpu}
-use Rattle.private_machine.specs.Vcpu.{no_vcpu, with_registers, with_line_on, ticking}
+use Rattle.private_machine.specs.Vcpu.{no_vcpu, with_line_on, ticking}
 use Rattle.private_machine.specs.Signals.{changed}
 use Rattle.private_machine.specs.DevicePage.{DevicePage}
 use Rattle.private_machine.specs.PrivateMachine.{input_waits}
 use Rattle.private_machine.specs.DirectAccess.{Outcome}
 use Rattle.guest_devs.specs.Arrivals.{NoneJoins}
 use Rattle.isolation_law.specs.DirectStep.{relinked}
-use Rattle.guest_course.specs.HardwareView.{stepped, sight_at}
+use Rattle.guest_course.specs.HardwareView.{after_step, stepped, sight_at}
 use Rattle.guest_course.specs.Joining.{waits_for, joined_if, joined_page, lined_if, lined, is_due_if, is_due}
 use Rattle.guest_devs.specs.Quiet.{InputRests, AreQuiet}
 use Rattle.guest_course.proofs.JoinLemmas.{by-first}
+use Rattle.guest_course.proofs.PagingLemmas.{but_page, taken-rest}
 
 -- ---- what the hardware's step leaves of a virtual processor
 
+-- but for what may be written on a register page
 pub record SameTimes (new old : Vcpu) : Type 0 where
-  pub cp0 : new.cp0 ≡ old.cp0
+  pub cp0 : but_page new.cp0 ≡ but_page old.cp0
   pub steps : new.steps ≡ old.steps
 
 same-times : (c : Vcpu) → SameTimes c c
@@ -32,17 +35,17 @@ relinked-times (l ∷ ls) [] i = same-times no_vcpu
 relinked-times (l ∷ ls) (c ∷ cs) zero = record { cp0 = refl; steps = refl }
 relinked-times (l ∷ ls) (c ∷ cs) (suc i) = relinked-times ls cs i
 
-registers-times : (o : Outcome) (v : ℕ) (cs : List Vcpu) (i : ℕ) → SameTimes (get_or (changed v (with_registers o.after.registers) cs) i no_vcpu) (get_or cs i no_vcpu)
-registers-times o v [] i = same-times no_vcpu
-registers-times o zero (c ∷ cs) zero = record { cp0 = refl; steps = refl }
-registers-times o zero (c ∷ cs) (suc i) = same-times (get_or cs i no_vcpu)
-registers-times o (suc v) (c ∷ cs) zero = same-times c
-registers-times o (suc v) (c ∷ cs) (suc i) = registers-times o v cs i
+registers-times : (block : Option RegBlock) (o : Outcome) (v : ℕ) (cs : List Vcpu) (i : ℕ) → SameTimes (get_or (changed v (after_step block o) cs) i no_vcpu) (get_or cs i no_vcpu)
+registers-times block o v [] i = same-times no_vcpu
+registers-times block o zero (c ∷ cs) zero = record { cp0 = taken-rest block o.after.block c.cp0; steps = refl }
+registers-times block o zero (c ∷ cs) (suc i) = same-times (get_or cs i no_vcpu)
+registers-times block o (suc v) (c ∷ cs) zero = same-times c
+registers-times block o (suc v) (c ∷ cs) (suc i) = registers-times block o v cs i
 
-pub stepped-times : (v : ℕ) (o : Outcome) (cs : List Vcpu) (i : ℕ) → SameTimes (get_or (stepped v o cs) i no_vcpu) (get_or cs i no_vcpu)
-stepped-times v o cs i =
+pub stepped-times : (v : ℕ) (block : Option RegBlock) (o : Outcome) (cs : List Vcpu) (i : ℕ) → SameTimes (get_or (stepped v block o cs) i no_vcpu) (get_or cs i no_vcpu)
+stepped-times v block o cs i =
     let first = relinked-times o.after.held.links cs i in
-    let then = registers-times o v (relinked o.after.held.links cs) i in
+    let then = registers-times block o v (relinked o.after.held.links cs) i in
     record { cp0 = then.cp0 ∙ first.cp0; steps = then.steps ∙ first.steps }
 
 -- ---- before a quiet step
@@ -80,9 +83,18 @@ quiet-less n m v cs page few q = record {
 }
 
 -- coprocessor 0 and the count of the steps decide
+rest-often : (k : ℕ) (c : Cp0Registers) → but_page (ticked_often k c) ≡ ticked_often k (but_page c)
+rest-often zero c = refl
+rest-often (suc k) c = rest-often k (ticked c)
+
+-- what is written on a register page interrupts nothing
+quiet-rest : (n : ℕ) (c d : Cp0Registers) → but_page c ≡ but_page d → IsQuiet n d → IsQuiet n c
+quiet-rest n c d e q k lt =
+    ap interrupts (rest-often k c) ∙ ap (λ (x : Cp0Registers). interrupts (ticked_often k x)) e ∙ sym (ap interrupts (rest-often k d)) ∙ q k lt
+
 pub quiet-same : (n v : ℕ) (new old : List Vcpu) (page : DevicePage) → ((i : ℕ) → SameTimes (get_or new i no_vcpu) (get_or old i no_vcpu)) → AreQuiet n v old page → AreQuiet n v new page
 quiet-same n v new old page same q = record {
-  interrupts = subst (IsQuiet n) (sym (same v).cp0) q.interrupts;
+  interrupts = quiet-rest n (get_or new v no_vcpu).cp0 (get_or old v no_vcpu).cp0 (same v).cp0 q.interrupts;
   input = λ first some. let rests = q.input first some in record {
     none = subst (λ (s : ℕ). NoneJoins (s + n) page) (sym (same 0).steps) rests.none;
     line = ap (λ (c : Cp0Registers). c.cause.pending.input) (same 0).cp0 ∙ rests.line;
@@ -110,4 +122,4 @@ pub record SameSpace (new old : Vcpu) : Type 0 where
   pub hi : new.cp0.entry_hi ≡ old.cp0.entry_hi
 
 pub sight-same : (lost : ℕ → Bool) (new old : Vcpu) (tlb : List Half) → SameSpace new old → sight_at lost new false tlb ≡ sight_at lost old false tlb
-sight-same lost new old tlb same = λ i. record { user = in_user_mode (same.status i); asid = (same.hi i).asid; line = false; tlb = tlb; lost = lost }
+sight-same lost new old tlb same = λ i. record { block = None; user = in_user_mode (same.status i); asid = (same.hi i).asid; line = false; tlb = tlb; lost = lost }

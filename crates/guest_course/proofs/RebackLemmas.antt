@@ -46,6 +46,7 @@ sound-rebacked c d sound r loaded w =
       sized = record {
         some_vcpus = rw r.vcpus sized.some_vcpus;
         few_vcpus = rw r.vcpus sized.few_vcpus;
+        blocks = rw (r.blocks, r.vcpus) sized.blocks;
         transfers = rw (r.devs, r.vcpus) sized.transfers;
         seconds = r.seconds ∙ sized.seconds ∙ ap (λ l. length l.items) (sym r.vcpus);
         few_processors = subst (λ (k : ℕ). k ≤ most_processors) (sym r.places) sized.few_processors;

@@ -84,6 +84,7 @@ received-remade c d q x sound on r =
         transfers = ap (λ (y : DeviceState). length y.page.transfers) r.devs ∙ sound.sized.transfers ∙ sym vcpus;
         agree = r.agree;
       };
+      blocks = ap (λ (y : Course). length y.blocks.items) r.same;
       seconds = ap (λ (y : Course). length y.seconds.items) r.same;
       places = ap (λ (y : Course). length y.places.items) r.same;
       due = ap (λ (y : Course). length y.due.items) r.same;
@@ -127,6 +128,7 @@ discards-sound c list sound w =
       sized = record {
         some_vcpus = sized.some_vcpus;
         few_vcpus = sized.few_vcpus;
+        blocks = sized.blocks;
         transfers = sized.transfers;
         seconds = sized.seconds;
         few_processors = sized.few_processors;

@@ -22,7 +22,7 @@ use Rattle.isolation_law.specs.GuestState.{GuestState, page, processor, vcpu_of,
 use Rattle.isolation_law.specs.Content.{content}
 use Rattle.isolation_law.specs.Coherence.{Coherent}
 use Rattle.isolation_law.specs.DirectStep.{lost_frames, with_inputs, sight}
-use Rattle.isolation_law.specs.Needs.{none_of, for_lost}
+use Rattle.isolation_law.specs.Needs.{none_of}
 use Rattle.isolation_law.specs.RefillRow.{half_for, second_for, Refills}
 use Rattle.isolation_law.specs.Traps.{step_on, is_granted}
 use Rattle.guest_course.specs.declared.granting.Granted.{Granted}
@@ -72,19 +72,8 @@ denied-accessed s p v cause t w is denied = ap (is_granted s v) is ∙ denied
 pub denied-none : (s : GuestState) (p v : ℕ) (cause : TrapCause) (t : TrapsFor s p v cause) → trapped_access t.trap ≡ None → is_granted s v (trapped_access t.trap) ≡ false
 denied-none s p v cause t none = ap (is_granted s v) none
 
--- nor has a page to be collapsed where no frame is lost
-kept-live : (s : GuestState) (p v : ℕ) (trap : Trap) → ReachesNoneLost s p v → step_on s p v ≡ Err trap → for_lost s trap ≡ None
-kept-live s p v Line live is = refl
-kept-live s p v (FetchMiss w) live is = refl
-kept-live s p v (DataMiss word w) live is = refl
-kept-live s p v (ReadOnly word w) live is = refl
-kept-live s p v (Address word) live is = refl
-kept-live s p v (Privileged word) live is = refl
-kept-live s p v (Raised x) live is = refl
-kept-live s p v (Dead there w) live is = absurd (none-lost s p v (Dead there w) live is there w refl)
-
 pub stays-denied : (s t : GuestState) (p v : ℕ) (cause : TrapCause) (x : TrapsFor s p v cause) → ReachesNoneLost s p v → is_granted s v (trapped_access x.trap) ≡ false → t ≡ s → StaysDenied s p v cause t
-stays-denied s t p v cause x live denied same = record { why = record { why = x; denied = denied; kept = kept-live s p v x.trap live x.traps }; same = same }
+stays-denied s t p v cause x live denied same = record { why = record { why = x; alive = live; denied = denied }; same = same }
 
 -- the half that joined is the access's
 pub refills : (s t : GuestState) (p v : ℕ) (cause : TrapCause) (may : MayStep s p v) (x : TrapsFor s p v cause) (w : Wanted) (g : Granted) → missed_access x.trap ≡ Some w → (page s g.page.0).move ≡ None

@@ -44,6 +44,7 @@ passed-rebacked c d e all f =
     let places : d.places ≡ c.places = ap (λ (y : Course). y.places) f.same in
     record {
       vcpus = ap (λ (y : Course). y.vcpus) f.same;
+      blocks = ap (λ (y : Course). y.blocks) f.same;
       devs = ap (λ (y : Course). y.devs) f.same;
       around = ap (λ (y : Course). y.around) f.same;
       counted = f.counted;

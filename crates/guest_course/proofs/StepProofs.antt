@@ -1,5 +1,6 @@
 -- A step through a processor's TLB keeps what holds of a guest, and is its row.
-use Rattle.std.proofs.Common.{◌≡◌, ℕ, ◌<◌, ◌≤◌, ◌==◌, if◌then◌else◌, Bool, true, false, Some, None, Result, Ok, List, length, map, get_or, refl, sym, ap, ◌∙◌, subst, length-set}
+use Rattle.std.proofs.Common.{◌≡◌, ℕ, ◌<◌, ◌≤◌, ◌==◌, if◌then◌else◌, Bool, true, false, Some, None, Result, Ok, List, length, map, set, get_or, refl, sym, ap, ◌∙◌, subst, length-set}
+use Rattle.std.proofs.lemmas.List.{set-get_or}
 use Rattle.base_words.specs.Limits.{most_processors}
 use Rattle.base_words.specs.declared.trap.Access.{Access}
 use Rattle.base_words.specs.declared.trap.DataAccess.{DataAccess}
@@ -16,7 +17,9 @@ use Rattle.page_policy.specs.Pages.{AreCounters}
 use Rattle.guest_devs.specs.DeviceState.{DeviceState}
 use Rattle.guest_devs.specs.DeviceCalls.{on_page}
 use Rattle.guest_devs.specs.Shown.{Agree}
-use Rattle.isolation_law.specs.GuestState.{GuestState, idle, processor, vcpu_of}
+use Rattle.isolation_law.specs.GuestState.{GuestState, idle, processor, vcpu_of, block_at}
+use Rattle.isolation_law.specs.PageWords.{IsTaken}
+use Rattle.isolation_law.specs.StepRows.{Steps}
 use Rattle.isolation_law.specs.Coherence.{Coherent}
 use Rattle.isolation_law.specs.DataWithin.{IsWithinPages}
 use Rattle.isolation_law.specs.DirectStep.{with_inputs, held_of, data_noted}
@@ -27,68 +30,86 @@ use Rattle.guest_course.specs.declared.course.Course.{Course}
 use Rattle.guest_course.specs.CourseView.{processor_of, state_of}
 use Rattle.guest_course.specs.CourseRules.{IsGoing, IsSound, MayNote, IsDataOf}
 use Rattle.guest_course.specs.Joining.{waits_for, joined_if, joined_page, lined_if, lined, is_due}
-use Rattle.guest_course.specs.Executed.{outcome_at, parts_of, Executed, Untouched}
+use Rattle.guest_course.specs.Executed.{outcome_at, parts_at, Executed, Untouched}
 use Rattle.guest_course.specs.StepCalls.{MayStep, StepsDirect, TrapsUnchanged}
 use Rattle.std.specs.Global.{Vec}
 use Rattle.guest_course.specs.declared.place.Place.{Place}
 use Rattle.guest_course.proofs.PlaceLemmas.{loaded-below}
 use Rattle.guest_course.proofs.ShownLemmas.{stepped-length}
 use Rattle.guest_course.proofs.LengthLemmas.{stepped-long, halted-shown, halted-at}
-use Rattle.guest_course.proofs.DirectRow.{left_by_step, traps-for, direct-row, direct-pages}
+use Rattle.guest_course.proofs.DirectRow.{Takes, left_by_step, traps-for, direct-row, direct-pages}
 use Rattle.guest_course.specs.Failures.{dead_cells, lost_in}
 use Rattle.isolation_law.specs.LiveCells.{UsesLive}
 use Rattle.guest_course.proofs.RebackLemmas.{IsWell}
 
 -- what a step of the hardware leaves as it was
-pub record Hardware (c d : Course) : Type 0 where
-  pub same : d ≡ record c { vcpus = d.vcpus; devs = d.devs; pmap = d.pmap }
+pub record Hardware (c d : Course) (v : ℕ) : Type 0 where
+  pub same : d ≡ record c { vcpus = d.vcpus; blocks = d.blocks; devs = d.devs; pmap = d.pmap }
+  pub blocks : d.blocks.items ≡ set c.blocks.items v (block_at (state_of d) v)
   pub spares : d.pmap.spares ≡ c.pmap.spares
   pub devs : d.devs.state ≡ on_page c.devs.state d.devs.state.page
   pub agree : Agree d.devs.state d.vcpus.items
 
 abbrev pub outcome : Course → ℕ → ℕ → Result Outcome TrapCause
-outcome c p v = outcome_at (lost_in c.around.site.shape c.dead) c.pmap.pages c.vcpus.items c.devs.state.page v (processor (state_of c) p).tlb
+outcome c p v = outcome_at (lost_in c.around.site.shape c.dead) (block_at (state_of c) v) c.pmap.pages c.vcpus.items c.devs.state.page v (processor (state_of c) p).tlb
+
+-- the law of what is written on register pages
+abbrev pub WordsTaken : Type 0
+WordsTaken = (s t : GuestState) (p v : ℕ) → (row : Steps s p v t) → IsTaken (block_at s v) row.done.does.request
 
 -- what is true of a step that the hardware made
 pub record Made (c d : Course) (p v : ℕ) (access : Access) : Type 0 where
   pub sound : IsSound c
   pub may : MayStep (state_of c) p v
-  pub hardware : Hardware c d
-  pub executed : Executed v (outcome c p v) (parts_of c) (parts_of d) access
+  pub words : WordsTaken
+  pub hardware : Hardware c d v
+  pub executed : Executed v (outcome c p v) (parts_at v c) (parts_at v d) access
+
+-- the one that steps has the block that its registers read
+takes : (c d : Course) (p v : ℕ) (access : Access) → Made c d p v access → Takes (state_of c) p v
+takes c d p v access m = record {
+  running = m.sound.loaded p v m.may.runs.loaded;
+  mirrors = (m.sound.going m.may.goes_on.not_ended).coherent.mirrors;
+  taken = λ t row. m.words (state_of c) t p v row;
+}
 
 -- the definition's step, with its pages
 pages-of : (c d : Course) (p v : ℕ) (access : Access) → Made c d p v access
-    → (done : Done) × (step_on (state_of c) p v ≡ Ok done) × (access ≡ access_told v (held_of (with_inputs (state_of c) v)) done) × (d.pmap.pages ≡ (stepped_through v (held_of (with_inputs (state_of c) v)) done).held.pages)
-pages-of c d p v access m = direct-pages (state_of c) p v (is_due v (waits_for c.vcpus.items c.devs.state.page) (vcpu_of (state_of c) v)) d.pmap.pages m.executed.between access m.sound.sized.some_vcpus refl m.executed.made
+    → (done : Done) × (step_on (state_of c) p v ≡ Ok done) × (access ≡ access_told v (held_of (with_inputs (state_of c) v)) done) × (d.pmap.pages ≡ (stepped_through v (block_at (state_of c) v) (held_of (with_inputs (state_of c) v)) done).held.pages)
+pages-of c d p v access m = direct-pages (state_of c) p v (is_due v (waits_for c.vcpus.items c.devs.state.page) (vcpu_of (state_of c) v)) (block_at (state_of d) v) d.pmap.pages m.executed.between access m.sound.sized.some_vcpus refl m.executed.made
 
 pub stays-long : (c d : Course) (p v : ℕ) (access : Access) → Made c d p v access → length d.pmap.pages ≡ length c.pmap.pages
 stays-long c d p v access m =
     let r = pages-of c d p v access m in
-    ap length r.3 ∙ stepped-long v (held_of (with_inputs (state_of c) v)) r.0
+    ap length r.3 ∙ stepped-long v (block_at (state_of c) v) (held_of (with_inputs (state_of c) v)) r.0
 
 -- the state after the step, but for what is noted of it
-pub mid-state : (c d : Course) (p v : ℕ) (access : Access) (m : Made c d p v access) → state_of d ≡ left_by_step (state_of c) v d.pmap.pages m.executed.between
+pub mid-state : (c d : Course) (p v : ℕ) (access : Access) (m : Made c d p v access) → state_of d ≡ left_by_step (state_of c) v (block_at (state_of d) v) d.pmap.pages m.executed.between
 mid-state c d p v access m =
     let e = m.executed in
     ap state_of m.hardware.same
-    ∙ (λ i. record (state_of c) { vcpus = e.vcpus_are i; devices = e.page_is i; pages = d.pmap.pages; spares = m.hardware.spares i })
+    ∙ (λ i. record (state_of c) { blocks = m.hardware.blocks i; vcpus = e.vcpus_are i; devices = e.page_is i; pages = d.pmap.pages; spares = m.hardware.spares i })
 
 -- the step and what is noted of it are the row
 pub executes : (c d x : Course) (p v : ℕ) (access : Access) → Made c d p v access → state_of x ≡ data_noted p access.«data» (state_of d) → StepsDirect (state_of c) p v (state_of x) access
 executes c d x p v access m noted =
     let e = m.executed in
-    let row = direct-row (state_of c) p v (is_due v (waits_for c.vcpus.items c.devs.state.page) (vcpu_of (state_of c) v)) d.pmap.pages e.between access m.sound.sized.some_vcpus refl m.may e.made in
+    let row = direct-row (state_of c) p v (is_due v (waits_for c.vcpus.items c.devs.state.page) (vcpu_of (state_of c) v)) (block_at (state_of d) v) d.pmap.pages e.between access m.sound.sized.some_vcpus refl m.may (takes c d p v access m) e.made in
     subst (λ (t : GuestState). StepsDirect (state_of c) p v t access) (sym (noted ∙ ap (data_noted p access.«data») (mid-state c d p v access m))) row
 
+-- a trap leaves the register pages, too
+blocks-stay : (c d : Course) (p v : ℕ) (cause : TrapCause) → Hardware c d v → Untouched (outcome c p v) (parts_at v c) (parts_at v d) cause → d.blocks.items ≡ c.blocks.items
+blocks-stay c d p v cause h u = h.blocks ∙ ap (set c.blocks.items v) u.made.block_stays ∙ set-get_or c.blocks.items v None
+
 -- a trap leaves the guest as it was
-pub stays : (c d : Course) (p v : ℕ) (cause : TrapCause) → Hardware c d → Untouched (outcome c p v) (parts_of c) (parts_of d) cause → state_of d ≡ state_of c
+pub stays : (c d : Course) (p v : ℕ) (cause : TrapCause) → Hardware c d v → Untouched (outcome c p v) (parts_at v c) (parts_at v d) cause → state_of d ≡ state_of c
 stays c d p v cause h u =
     ap state_of h.same
-    ∙ (λ i. record (state_of c) { vcpus = u.made.vcpus_stay i; devices = u.page_stays i; pages = u.made.pages_stay i; spares = h.spares i })
+    ∙ (λ i. record (state_of c) { blocks = blocks-stay c d p v cause h u i; vcpus = u.made.vcpus_stay i; devices = u.page_stays i; pages = u.made.pages_stay i; spares = h.spares i })
 
-pub traps : (c d : Course) (p v : ℕ) (cause : TrapCause) → IsSound c → MayStep (state_of c) p v → Hardware c d → Untouched (outcome c p v) (parts_of c) (parts_of d) cause → TrapsUnchanged (state_of c) p v (state_of d) cause
+pub traps : (c d : Course) (p v : ℕ) (cause : TrapCause) → IsSound c → MayStep (state_of c) p v → Hardware c d v → Untouched (outcome c p v) (parts_at v c) (parts_at v d) cause → TrapsUnchanged (state_of c) p v (state_of d) cause
 traps c d p v cause sound may h u = record {
-  why = traps-for (state_of c) p v (is_due v (waits_for c.vcpus.items c.devs.state.page) (vcpu_of (state_of c) v)) d.pmap.pages d.vcpus.items cause sound.sized.some_vcpus refl u.made;
+  why = traps-for (state_of c) p v (is_due v (waits_for c.vcpus.items c.devs.state.page) (vcpu_of (state_of c) v)) (block_at (state_of d) v) d.pmap.pages d.vcpus.items cause sound.sized.some_vcpus refl u.made;
   same = stays c d p v cause h u;
 }
 
@@ -141,7 +162,7 @@ vcpus-count c d p v access m =
     let between = e.between in
     let l = lined v (waits_for between c.devs.state.page) between in
     ap length e.vcpus_are ∙ length-set l v (ticking (get_or l v no_vcpu)) ∙ length-lined v (waits_for between c.devs.state.page) between
-    ∙ ap length e.made.vcpus_are ∙ stepped-length v e.made.o c.vcpus.items
+    ∙ ap length e.made.vcpus_are ∙ stepped-length v (block_at (state_of c) v) e.made.o c.vcpus.items
 
 -- what is shown stays, and so who has halted
 shows : (c d : Course) (p v : ℕ) (access : Access) → Made c d p v access → map shown_by d.vcpus.items ≡ map shown_by c.vcpus.items
@@ -192,6 +213,7 @@ sound-after c d x p v access m n w =
       sized = record {
         some_vcpus = subst (λ (k : ℕ). 0 < k) (sym count) sized.some_vcpus;
         few_vcpus = subst (λ (k : ℕ). k ≤ 4) (sym count) sized.few_vcpus;
+        blocks = ap (λ (y : Course). length y.blocks.items) n.same ∙ ap length m.hardware.blocks ∙ length-set c.blocks.items v (block_at (state_of d) v) ∙ sized.blocks ∙ sym count;
         transfers = transfers ∙ sized.transfers ∙ sym count;
         seconds = ap (λ l. length l.items) seconds ∙ sized.seconds ∙ sym count;
         few_processors = subst (λ (l : Vec Place). length l.items ≤ most_processors) (sym places) sized.few_processors;
@@ -208,7 +230,7 @@ sound-after c d x p v access m n w =
     }
 
 -- a course with the same parts is as sound
-pub sound-stays : (c d : Course) (p v : ℕ) (cause : TrapCause) → IsSound c → Hardware c d → Untouched (outcome c p v) (parts_of c) (parts_of d) cause → IsSound d
+pub sound-stays : (c d : Course) (p v : ℕ) (cause : TrapCause) → IsSound c → Hardware c d v → Untouched (outcome c p v) (parts_at v c) (parts_at v d) cause → IsSound d
 sound-stays c d p v cause sound h u =
     let sized = sound.sized in
     let same = h.same in
@@ -227,6 +249,7 @@ sound-stays c d p v cause sound h u =
       sized = record {
         some_vcpus = subst (λ (k : ℕ). 0 < k) (sym count) sized.some_vcpus;
         few_vcpus = subst (λ (k : ℕ). k ≤ 4) (sym count) sized.few_vcpus;
+        blocks = ap length (blocks-stay c d p v cause h u) ∙ sized.blocks ∙ sym count;
         transfers = ap (λ (y : DevicePage). length y.transfers) page ∙ sized.transfers ∙ sym count;
         seconds = ap (λ l. length l.items) seconds ∙ sized.seconds ∙ sym count;
         few_processors = subst (λ (l : Vec Place). length l.items ≤ most_processors) (sym places) sized.few_processors;

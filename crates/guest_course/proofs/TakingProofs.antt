@@ -20,7 +20,7 @@ use Rattle.isolation_law.specs.Content.{content, with_own}
 use Rattle.isolation_law.specs.Dues.{without_due}
 use Rattle.isolation_law.specs.GuestState.{GuestState}
 use Rattle.isolation_law.specs.StepAct.{at_hand}
-use Rattle.isolation_law.specs.StepRows.{EndsRead, IsEmulated, taken_shared}
+use Rattle.isolation_law.specs.StepRows.{EndsRead, IsEmulated, taken_shared, shown_again}
 use Rattle.guest_course.specs.declared.course.Course.{Course}
 use Rattle.guest_course.specs.declared.task.Task.TheVariants as tasks
 use Rattle.guest_course.specs.Acting.{IsOwnRead, IsTaken}
@@ -58,6 +58,7 @@ taken-rebacked c d q target all f =
     let places : d.places ≡ c.places = ap (λ (y : Course). y.places) f.same in
     record {
       vcpus = ap (λ (y : Course). y.vcpus) f.same;
+      blocks = ap (λ (y : Course). y.blocks) f.same;
       devs = ap (λ (y : Course). y.devs) f.same;
       around = ap (λ (y : Course). y.around) f.same;
       counted = λ pages nodes is. rw (ap (λ (y : Course). y.counters) f.same) is;
@@ -110,9 +111,9 @@ is-read s v b q acts.DiskRead defers is =
 is-read s v b q acts.DiskWrite defers is = absurd (written-never s v b q (status s v 2 == 0) (sym (command-does s v 2 defers.leaves) ∙ is))
 is-read s v b q (acts.Send to) defers is = absurd (sent-never s v to b q (may_send (content s) (set_by s v)) (sym (send-does s v to defers.leaves) ∙ is))
 
-pub ends-read-row : (c m d : Course) (p v q : ℕ) (act : DevAct) → Ticks → (own : IsOwnRead (state_of c) v q) → IsEmulated (state_of c) p v → Defers (joined (content (state_of c)) v) v act
-    → Left c m v (tasks.Take (record { 0 = q })) → state_of d ≡ taken_shared q own.taken.target (state_of m) → EndsRead (state_of c) p v (state_of d)
-ends-read-row c m d p v q act ticks own traps defers l is =
+pub ends-read-row : (c m x d : Course) (p v q : ℕ) (act : DevAct) → Ticks → (own : IsOwnRead (state_of c) v q) → IsEmulated (state_of c) p v → Defers (joined (content (state_of c)) v) v act
+    → Left c m v (tasks.Take (record { 0 = q })) → state_of x ≡ shown_again v (state_of m) → state_of d ≡ taken_shared q own.taken.target (state_of x) → EndsRead (state_of c) p v (state_of d)
+ends-read-row c m x d p v q act ticks own traps defers l shown is =
     let s = state_of c in
     let g = content s in
     let n = passed_by g v in
@@ -131,9 +132,9 @@ ends-read-row c m d p v q act ticks own traps defers l is =
       its_own = own.its_own;
       nobody_waits = own.taken.nobody;
       unwritten = own.unwritten;
-      after = is ∙ ap (taken_shared q own.taken.target) (state-left c m v (tasks.Take (record { 0 = q })) l)
-          ∙ ap (λ (k : ℕ). taken_shared q own.taken.target (task_done s v (tasks.Take (record { 0 = k })))) read.page_is
-          ∙ (λ i. with_own (sym whole i) (taken_shared q own.taken.target s));
+      after = is ∙ ap (taken_shared q own.taken.target) (shown ∙ ap (shown_again v) (state-left c m v (tasks.Take (record { 0 = q })) l))
+          ∙ ap (λ (k : ℕ). taken_shared q own.taken.target (shown_again v (task_done s v (tasks.Take (record { 0 = k }))))) read.page_is
+          ∙ (λ i. shown_again v (with_own (sym whole i) (taken_shared q own.taken.target s)));
     }
 
 -- ---- a packet

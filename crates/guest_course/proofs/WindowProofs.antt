@@ -10,13 +10,13 @@ use Rattle.private_machine.specs.Vcpu.{no_vcpu, ticking}
 use Rattle.private_machine.specs.Reaching.{Sight}
 use Rattle.private_machine.specs.DevicePage.{DevicePage}
 use Rattle.hw_cpu.specs.FetchPages.{IsFetchPage}
-use Rattle.isolation_law.specs.GuestState.{processor}
+use Rattle.isolation_law.specs.GuestState.{processor, block_at}
 use Rattle.guest_course.specs.declared.course.Course.{Course}
 use Rattle.guest_course.specs.CourseView.{state_of}
 use Rattle.guest_course.specs.Failures.{lost_in}
 use Rattle.guest_course.specs.HardwareView.{sight_at}
 use Rattle.guest_course.specs.Joining.{waits_for, lined}
-use Rattle.guest_course.specs.Executed.{Untouched, parts_of}
+use Rattle.guest_course.specs.Executed.{Untouched, parts_at}
 use Rattle.guest_devs.specs.Quiet.{AreQuiet}
 use Rattle.guest_course.specs.declared.window.Window.{Window}
 use Rattle.guest_course.specs.Windows.{IsWindowOn}
@@ -28,10 +28,10 @@ use Rattle.guest_course.proofs.QuietLemmas.{QuietPass, SameTimes, SameSpace, ste
 -- the one that steps is there
 between-there : (c d : Course) (p v : ℕ) (access : Access) (m : Made c d p v access) → v < length m.executed.between
 between-there c d p v access m =
-    subst (λ (n : ℕ). v < n) (sym (ap length m.executed.made.vcpus_are ∙ stepped-length v m.executed.made.o c.vcpus.items)) (m.sound.loaded p v m.may.runs.loaded)
+    subst (λ (n : ℕ). v < n) (sym (ap length m.executed.made.vcpus_are ∙ stepped-length v (block_at (state_of c) v) m.executed.made.o c.vcpus.items)) (m.sound.loaded p v m.may.runs.loaded)
 
 between-times : (c d : Course) (p v : ℕ) (access : Access) (m : Made c d p v access) (i : ℕ) → SameTimes (get_or m.executed.between i no_vcpu) (get_or c.vcpus.items i no_vcpu)
-between-times c d p v access m i = subst (λ (l : List Vcpu). SameTimes (get_or l i no_vcpu) (get_or c.vcpus.items i no_vcpu)) (sym m.executed.made.vcpus_are) (stepped-times v m.executed.made.o c.vcpus.items i)
+between-times c d p v access m i = subst (λ (l : List Vcpu). SameTimes (get_or l i no_vcpu) (get_or c.vcpus.items i no_vcpu)) (sym m.executed.made.vcpus_are) (stepped-times v (block_at (state_of c) v) m.executed.made.o c.vcpus.items i)
 
 pub quiet-made : QuietPass → (c d x : Course) (p v : ℕ) (access : Access) → Made c d p v access → Noted d x → (n : ℕ) → AreQuiet n v c.vcpus.items c.devs.state.page → AreQuiet (n - 1) v x.vcpus.items x.devs.state.page
 quiet-made pass c d x p v access m noted n q =
@@ -83,12 +83,12 @@ window-made c d x p v access m noted window w =
     window-same c x p v window reach (record { status = ap (λ (k : Vcpu). k.cp0.status) vcpus ∙ space.status; hi = ap (λ (k : Vcpu). k.cp0.entry_hi) vcpus ∙ space.hi }) w
 
 -- a trap leaves all of it
-pub quiet-trap : (c d : Course) (p v : ℕ) (cause : TrapCause) → Untouched (outcome c p v) (parts_of c) (parts_of d) cause → (n : ℕ) → AreQuiet n v c.vcpus.items c.devs.state.page → AreQuiet (n - 1) v d.vcpus.items d.devs.state.page
+pub quiet-trap : (c d : Course) (p v : ℕ) (cause : TrapCause) → Untouched (outcome c p v) (parts_at v c) (parts_at v d) cause → (n : ℕ) → AreQuiet n v c.vcpus.items c.devs.state.page → AreQuiet (n - 1) v d.vcpus.items d.devs.state.page
 quiet-trap c d p v cause u n q =
     subst (λ (page : DevicePage). AreQuiet (n - 1) v d.vcpus.items page) (sym u.page_stays)
     (subst (λ (l : List Vcpu). AreQuiet (n - 1) v l c.devs.state.page) (sym u.made.vcpus_stay) (quiet-less n (n - 1) v c.vcpus.items c.devs.state.page (omega arith) q))
 
-pub window-trap : (c d : Course) (p v : ℕ) (cause : TrapCause) → Hardware c d → Untouched (outcome c p v) (parts_of c) (parts_of d) cause → (window : Window) → IsWindowOn c p v window → IsWindowOn d p v window
+pub window-trap : (c d : Course) (p v : ℕ) (cause : TrapCause) → Hardware c d v → Untouched (outcome c p v) (parts_at v c) (parts_at v d) cause → (window : Window) → IsWindowOn c p v window → IsWindowOn d p v window
 window-trap c d p v cause h u window w =
     let reach : SameReach c d p = record {
       lost = ap (λ (y : Course). lost_in y.around.site.shape y.dead) h.same;

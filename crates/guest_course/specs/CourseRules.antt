@@ -37,6 +37,7 @@ AllStand around p (place ∷ places) = StandsAt around p place × AllStand aroun
 pub record IsSized (c : Course) : Type 0 where
   pub some_vcpus : 0 < length c.vcpus.items
   pub few_vcpus : length c.vcpus.items ≤ 4
+  pub blocks : length c.blocks.items ≡ length c.vcpus.items
   pub transfers : length c.devs.state.page.transfers ≡ length c.vcpus.items
   pub seconds : length c.seconds.items ≡ length c.vcpus.items
   pub few_processors : length c.places.items ≤ most_processors

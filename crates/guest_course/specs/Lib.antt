@@ -20,6 +20,7 @@ pub mod Wanting
 pub mod LeavingCalls
 pub mod ReceivingCalls
 pub mod Packets
+pub mod Paging
 pub mod TakingCalls
 pub mod Posting
 pub mod EndCalls

@@ -1,6 +1,7 @@
 //! Steps that a processor makes by itself, one after the other.
 ghost use Rattle.std.specs.Prelude.{◌≡◌, ◌≤◌, ◌<◌, length, None, is_some};
 ghost use Rattle.base_words.specs.declared.trap.DataAccess.TheVariants.{NoData};
+ghost use Rattle.private_machine.specs.RegisterPage.{has_page};
 ghost use Rattle.isolation_law.specs.GuestState.{due_on};
 ghost use Rattle.isolation_law.specs.Phases.{GoesOn, Runs};
 ghost use Rattle.guest_course.specs.CourseView.{state_of};
@@ -41,6 +42,33 @@ impl Course {
         ensures skips { self.new.skips ≡ self.old.skips }
         ensures packets { SamePackets self.old self.new }
     {
+        if self.is_paged() {
+            self.burst(processor, vcpu, most, true)
+        } else {
+            self.burst(processor, vcpu, most, false)
+        }
+    }
+
+    /// The same; `paged` tells whether the guest has register pages.
+    #[inline(always)]
+    fn burst(&mut self, processor: ProcId, vcpu: VcpuId, most: u64, paged: bool) -> Steps
+        requires sound { IsSound self.old }
+        requires paged { paged ≡ has_page self.old.around.profile }
+        requires may { MayStep (state_of self.old) processor.0 vcpu.0 }
+        requires some { 0 < most }
+        ensures sound { IsSound self.new }
+        ensures few { result.made ≤ most }
+        ensures came { StepsTo result.made (state_of self.old) processor.0 vcpu.0 (state_of self.new) result.last }
+        ensures stops { StopsAt most result.made (state_of self.new) processor.0 result.last }
+        ensures goes_on { GoesOn (state_of self.new) }
+        ensures runs { Runs (state_of self.new) processor.0 vcpu.0 }
+        ensures print_room { self.new.devs.print_room ≡ self.old.devs.print_room }
+        ensures send_room { self.new.devs.send_room ≡ self.old.devs.send_room }
+        ensures room { self.new.pmap.room ≡ self.old.pmap.room }
+        ensures cells { self.new.sent_from ≡ self.old.sent_from }
+        ensures skips { self.new.skips ≡ self.old.skips }
+        ensures packets { SamePackets self.old self.new }
+    {
         let is_due = self.due[processor.0 as usize].is_some();
         let limit = if is_due { 1 } else { most };
         let mut made = 0;
@@ -50,7 +78,7 @@ impl Course {
             if quiet == 0 {
                 quiet = quiet_steps(&self.vcpus, &self.devs, vcpu);
             }
-            let last = self.step_noted(processor, vcpu, quiet > 0, &mut window);
+            let last = self.step_noted(processor, vcpu, paged, quiet > 0, &mut window);
             quiet = quiet.saturating_sub(1);
             let HwStep::Direct(access) = last else {
                 return Steps { made, last };

@@ -28,6 +28,9 @@ pub enum Entry {
     Waits(Ppn),
     /// No entry yet, and nothing has changed: the store at hand is on this page, which needs this move first.
     Needs(Ppn, MoveKind),
+    /// No entry yet, and nothing has changed: the step at hand reached this page by a frame of a failed cell, and the page has to be
+    /// collapsed first.
+    Lost(Ppn),
 }
 
 impl Course {
@@ -56,6 +59,7 @@ impl Course {
             Refill::Filled => Entry::Refill,
             Refill::Waits(page) => Entry::Waits(page),
             Refill::Needs(page, kind) => Entry::Needs(page, kind),
+            Refill::Lost(page) => Entry::Lost(page),
             Refill::Denied => match self.emulate(processor, vcpu, cause) {
                 Emulation::Made => Entry::Emulate,
                 Emulation::Left(act) => Entry::Left(act),

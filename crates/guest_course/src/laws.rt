@@ -5,18 +5,12 @@ ghost use Rattle.private_machine.specs.Backing.{Move, Page, page_at};
 ghost use Rattle.guest_devs.specs.declared.act.DevAct.{DevAct};
 ghost use Rattle.pmap_table.specs.Tracking.{is_ready, HoldsNowhere};
 ghost use Rattle.isolation_law.specs.CellFailure.{end_by};
-ghost use Rattle.isolation_law.specs.Coherence.{Coherent};
 ghost use Rattle.isolation_law.specs.EndRows.{ended, takes};
-ghost use Rattle.isolation_law.specs.GuestState.{GuestState, processor};
-ghost use Rattle.isolation_law.specs.LiveCells.{UsesLive};
-ghost use Rattle.isolation_law.specs.Phases.{GoesOn};
+ghost use Rattle.isolation_law.specs.GuestState.{GuestState};
 ghost use Rattle.isolation_law.specs.StepAct.{at_hand};
 ghost use Rattle.guest_course.specs.Acting.{act_of};
 ghost use Rattle.guest_course.specs.EmulateCalls.{LeavesAct};
 ghost use Rattle.guest_course.specs.FailCalls.{EndsBy, FailsSo};
-ghost use Rattle.guest_course.specs.StepCalls.{ReachesNoneLost};
-
-use isolation_law::{goes_on_alive, lost_is_replica};
 
 /// What an act does with a page that is left is what the step at hand does.
 pub fn acts_are_at_hand()
@@ -27,14 +21,6 @@ pub fn acts_are_at_hand()
 pub fn ready_pages_are_taken()
     ensures { (pages : List Page) (q : ℕ) (m : Move) → HoldsNowhere is_ready pages → (page_at pages q).move ≡ Some m → HasNone m.waiting → takes m.change ≡ true }
 {}
-
-/// While a guest goes on, the hardware traps for no frame of a failed cell: each frame that it reaches is one that the guest uses.
-pub fn live_frames_are_reached()
-    ensures { (s : GuestState) (p v : ℕ) → Coherent s → UsesLive s → GoesOn s → (processor s p).loaded ≡ Some v → ReachesNoneLost s p v }
-{
-    lost_is_replica();
-    goes_on_alive();
-}
 
 /// Where a cell fails that a guest uses which goes on, the guest ends by it, once its pages are let go that are being taken shared.
 pub fn used_cells_end()

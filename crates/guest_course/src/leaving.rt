@@ -181,6 +181,7 @@ impl Course {
         begin(&mut self.vcpus, &mut self.devs, vcpu);
         self.perform(vcpu, task);
         tick(&mut self.vcpus, vcpu);
+        self.show_again(vcpu);
         Ok(())
     }
 }

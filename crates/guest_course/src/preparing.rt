@@ -2,6 +2,7 @@
 ghost use Rattle.std.specs.Prelude.{◌≡◌, ◌<◌, ◌≤◌, ◌+◌, Some, None};
 ghost use Rattle.base_words.specs.declared.moves.By.{By};
 ghost use Rattle.base_words.specs.declared.moves.By.TheVariants.{Step};
+ghost use Rattle.base_words.specs.declared.moves.MoveKind.TheVariants.{Collapse};
 ghost use Rattle.private_machine.specs.DeviceAct.{StoresTo};
 ghost use Rattle.isolation_law.specs.MoveRows.{Asks, Begins};
 ghost use Rattle.isolation_law.specs.Phases.{GoesOn};
@@ -12,12 +13,11 @@ ghost use Rattle.guest_course.specs.EmulateCalls.{LeavesAct};
 ghost use Rattle.guest_course.specs.Hurdles.{NeedsMove};
 ghost use Rattle.guest_course.specs.MoveCalls.{home_wish};
 ghost use Rattle.guest_course.specs.Packets.{SamePackets};
-ghost use Rattle.guest_course.specs.RefillCalls.{StaysNeeding};
+ghost use Rattle.guest_course.specs.RefillCalls.{StaysNeeding, StaysLosing};
 ghost use Rattle.guest_course.specs.StepCalls.{MayStep};
 ghost use Rattle.guest_course.specs.Tasks.{read_page};
 
 use crate::course::Course;
-use crate::laws::live_frames_are_reached;
 use base_words::{MoveKind, Ppn, ProcId, VcpuId};
 use guest_devs::DevAct;
 use isolation_law::{goes_on_alive, read_only_stores, row_keeps};
@@ -69,8 +69,27 @@ impl Course {
         ensures packets { SamePackets self.old self.new }
     {
         read_only_stores();
-        live_frames_are_reached();
         self.begin_asked(page, kind);
+    }
+
+    /// Begins to collapse a page that the step at hand reached by a frame of a failed cell.
+    pub fn begin_lost(&mut self, processor: ProcId, vcpu: VcpuId, page: Ppn)
+        requires sound { IsSound self.old }
+        requires may { MayStep (state_of self.old) processor.0 vcpu.0 }
+        requires loses { StaysLosing (state_of self.old) processor.0 vcpu.0 page.0 (state_of self.old) }
+        requires room { 0 < self.old.pmap.room }
+        ensures sound { IsSound self.new }
+        ensures begins { Begins (state_of self.old) page.0 Collapse (state_of self.old).around.home (Step processor) (state_of self.new) }
+        ensures goes_on { GoesOn (state_of self.new) }
+        ensures print_room { self.new.devs.print_room ≡ self.old.devs.print_room }
+        ensures send_room { self.new.devs.send_room ≡ self.old.devs.send_room }
+        ensures room { self.old.pmap.room ≤ self.new.pmap.room + 1 }
+        ensures cells { self.new.sent_from ≡ self.old.sent_from }
+        ensures skips { self.new.skips ≡ self.old.skips }
+        ensures packets { SamePackets self.old self.new }
+    {
+        let home = self.around.home;
+        self.begin(page, Change::Collapse, home);
     }
 
     /// Begins the move that a disk read needs of the page into which its block comes, where the read was left as an act. A break takes

@@ -298,6 +298,7 @@ impl Course {
         begin(&mut self.vcpus, &mut self.devs, vcpu);
         self.perform(vcpu, Task::Take(page));
         tick(&mut self.vcpus, vcpu);
+        self.show_again(vcpu);
         self.take(page)
     }
 

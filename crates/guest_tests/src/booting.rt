@@ -93,6 +93,34 @@ vcpus = 1
 node = 0
 "#;
 
+/// Two guests of four pages each on the first of three nodes, of which each is a cell and the third one has the processors; the second
+/// lends a frame.
+pub(crate) const ON_THREE_CELLS: &str = r#"
+[machine]
+nodes = 3
+frames = 8
+processors = [2, 2]
+[[cell]]
+nodes = [0]
+[[cell]]
+nodes = [1]
+lend = 1
+[[cell]]
+nodes = [2]
+[[guest]]
+image = "first.raw"
+form = "raw"
+pages = 4
+vcpus = 1
+node = 0
+[[guest]]
+image = "second.raw"
+form = "raw"
+pages = 4
+vcpus = 1
+node = 0
+"#;
+
 /// Two guests of three pages each with one disk, on a node with a processor for each, whose cell keeps a block.
 pub(crate) const WITH_A_BLOCK: &str = r#"
 [machine]

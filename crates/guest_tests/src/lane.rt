@@ -10,8 +10,8 @@ ghost use Rattle.wire_queue.specs.PassLists.{IsListOf};
 ghost use Rattle.guest_lock.specs.Told.{shown};
 
 use crate::telling::gave;
-use base_words::{MoveKind, NodeId, Ppn, VcpuId};
-use guest_core::{Asked, Guest, GuestRecord, Loaded, Packeted, Ready, Resources, Turn};
+use base_words::{CellId, MOST_CELLS, MoveKind, NodeId, Ppn, VcpuId};
+use guest_core::{Asked, Fate, Guest, GuestRecord, Loaded, Packeted, Ready, Resources, Turn};
 use guest_course::Wish;
 use guest_lock::tokens_grow;
 use shootdown::ProcToken;
@@ -240,6 +240,47 @@ impl Lane {
             &mut self.token,
             page,
             MoveKind::Migrate,
+            node,
+            resources,
+        )
+    }
+
+    /// A cell fails. An error is want of memory, or a cell that no machine has.
+    pub(crate) fn fail(&mut self, cell: CellId, resources: &Resources) -> Result<Fate, AllocError>
+        requires { AreOf (shared_by resources.now) self.old.guest }
+        ensures { IsSameGuest self.old.guest self.new.guest }
+    {
+        tokens_grow();
+        if usize::from(cell.0) >= MOST_CELLS {
+            return Err(AllocError);
+        }
+        self.guest.make_room()?;
+        self.guest.agree(&mut self.token);
+        Ok(self.guest.cell_fails(&mut self.token, cell, resources))
+    }
+
+    /// Asks for a replica of a page by the plan. An error is want of memory, or a page or a node that isn't there.
+    pub(crate) fn ask_for_replica(
+        &mut self,
+        alloc: Global,
+        page: Ppn,
+        node: NodeId,
+        resources: &Resources,
+    ) -> Result<Asked, AllocError>
+        requires { AreOf (shared_by resources.now) self.old.guest }
+        ensures { IsSameGuest self.old.guest self.new.guest }
+    {
+        tokens_grow();
+        if page.0 >= self.size.pages || node.0 >= self.size.nodes {
+            return Err(AllocError);
+        }
+        self.guest.make_room()?;
+        self.guest.agree(&mut self.token);
+        self.guest.ask_move(
+            alloc,
+            &mut self.token,
+            page,
+            MoveKind::Replicate,
             node,
             resources,
         )

@@ -6,6 +6,8 @@ mod booting;
 #[cfg(test)]
 mod guest_core_calls;
 #[cfg(test)]
+mod guest_core_losses;
+#[cfg(test)]
 mod guest_core_moves;
 #[cfg(test)]
 mod guest_core_packets;

@@ -6,10 +6,10 @@ ghost use Rattle.guest_core.specs.GuestView.{AreOf};
 ghost use Rattle.wire_queue.specs.PassLists.{IsListOf, taking_from};
 
 use crate::lane::Lane;
-use base_words::{FrameNo, GuestId, NodeId, Ppn, VcpuId};
+use base_words::{CellId, FrameNo, GuestId, NodeId, Ppn, VcpuId};
 use block_caches::Caches;
 use frame_words::{FrameTable, Holder, Took, take};
-use guest_core::{Asked, GuestRecord, Loaded, Packeted, Ready, Resources, Turn};
+use guest_core::{Asked, Fate, GuestRecord, Loaded, Packeted, Ready, Resources, Turn};
 use std::alloc::{AllocError, Global};
 use std::process::Abort;
 use std::sync::Wait;
@@ -107,6 +107,38 @@ impl Pair {
         match side {
             Side::First => self.first.ask(alloc, page, node, &resources),
             Side::Second => self.second.ask(alloc, page, node, &resources),
+        }
+    }
+
+    /// Asks for a replica of a page of a guest.
+    pub(crate) fn ask_for_replica(
+        &mut self,
+        alloc: Global,
+        side: Side,
+        page: Ppn,
+        node: NodeId,
+    ) -> Result<Asked, AllocError> {
+        let resources = Resources {
+            table: &self.table,
+            wires: &self.wires,
+            indexes: &self.caches.indexes,
+        };
+        match side {
+            Side::First => self.first.ask_for_replica(alloc, page, node, &resources),
+            Side::Second => self.second.ask_for_replica(alloc, page, node, &resources),
+        }
+    }
+
+    /// A cell fails for a guest.
+    pub(crate) fn fail(&mut self, side: Side, cell: CellId) -> Result<Fate, AllocError> {
+        let resources = Resources {
+            table: &self.table,
+            wires: &self.wires,
+            indexes: &self.caches.indexes,
+        };
+        match side {
+            Side::First => self.first.fail(cell, &resources),
+            Side::Second => self.second.fail(cell, &resources),
         }
     }
 

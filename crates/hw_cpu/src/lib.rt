@@ -8,5 +8,6 @@ mod stepping;
 
 pub use base_words::{Access, DataAccess, HwStep, TrapCause};
 pub use bus::Bus;
+pub use private_machine::RegBlock;
 pub use reaching::FetchPage;
 pub use stepping::step;

@@ -1,26 +1,32 @@
 //! One step of a processor. What takes the bus is inlined: a bus whose address a call takes stands in memory, and is put there in each step.
-ghost use Rattle.std.specs.Prelude.{◌≡◌, ◌≢◌, ◌<◌, ◌%◌, true, false, Some, None, IfSome, if◌then◌else◌, option_map};
+ghost use Rattle.std.specs.Prelude.{◌≡◌, ◌≢◌, ◌<◌, ◌%◌, ◌&&◌, ℕ, true, false, not, is_some, Option, Some, None, IfSome, if◌then◌else◌, option_map};
 ghost use Rattle.base_words.specs.declared.trap.HwStep.TheVariants.{Direct};
-ghost use Rattle.base_words.specs.Instruction.{effect};
+ghost use Rattle.base_words.specs.Instruction.{advanced, effect};
 ghost use Rattle.base_words.specs.OpcodeMap.{decoded};
 ghost use Rattle.base_words.specs.Place.{is_store as is_store_of};
-ghost use Rattle.mips_alu.specs.Execution.{passed, Executes};
+ghost use Rattle.mips_alu.specs.Execution.{passed, passed_system, Executes};
 ghost use Rattle.hw_tlb.specs.Tlb.{halves};
-ghost use Rattle.private_machine.specs.Reaching.{Lack as Want, Wanted as Asked, wanted, reached, fetch_at};
+ghost use Rattle.private_machine.specs.declared.register_page.RegBlock.{RegBlock};
+ghost use Rattle.private_machine.specs.RegisterPage.{block_after, opened, read_from, written_to};
+ghost use Rattle.private_machine.specs.Backing.{Held};
+ghost use Rattle.private_machine.specs.Reaching.{Lack as Want, Wanted as Asked, Reached as Place, wanted, reached, fetch_at};
 ghost use Rattle.private_machine.specs.OwnStep.{is_privileged as is_privileged_of};
 ghost use Rattle.private_machine.specs.HardwareStep.{accesses, fetch_trap, data_trap, cause_of};
 ghost use Rattle.private_machine.specs.DirectAccess.{outcome_of, hardware_outcome, accessed_through, data_told, store_told, load_told};
 ghost use Rattle.private_machine.specs.Serving.{AllServe, Backs, BacksAlone};
-ghost use Rattle.hw_cpu.specs.Steps.{sight_of, place_of, as_wanted, ReachesNone, Causes, Does};
+ghost use Rattle.hw_cpu.specs.Steps.{sight_of, with_page, place_of, as_wanted, left_by, ReachesNone, Causes, Does};
 ghost use Rattle.hw_cpu.specs.FetchPages.{IsFetchPage};
 
 use crate::Bus;
 use crate::accesses::{load, load_linked, store, store_conditional, word_at};
 use crate::reaching::{FetchPage, Lack, Mode, Reached, Wanted, denial, fetch, fetch_of, reach};
-use base_words::{Access, Cp0Op, DataAccess, Exception, HwStep, Regs, Request, TrapCause, Use};
+use base_words::{
+    Access, Cp0Op, DataAccess, Exception, HwStep, Register, Regs, Request, TrapCause, Use,
+};
 use hw_tlb::HwTlb;
-use mips_alu::{advance, execute, load_unit, store_unit};
+use mips_alu::{advance, execute, load_unit, store_unit, write};
 use mips_isa::decode;
+use private_machine::{RegBlock, redirected};
 
 /// The primary opcode of coprocessor 0.
 const COPROCESSOR_0: u32 = 16;
@@ -108,15 +114,62 @@ fn direct(fetched: Reached, access: DataAccess) -> HwStep
     })
 }
 
-/// Passes an instruction that asks nothing of memory. One of coprocessor 0 never comes here.
+/// A register is read on the register page, if there is one, and the instruction is passed.
 #[inline(always)]
-fn pass(regs: &mut Regs, request: Request)
+fn read_page(regs: &mut Regs, block: Option<RegBlock>, number: Register, target: Register)
+    ensures { regs.new ≡ read_from block (advanced regs.old) number target }
+{
+    advance(regs);
+    match block {
+        Some(page) => write(regs, target, page.word(number)),
+        None => {}
+    }
+}
+
+/// The register page, if there is one, after a register was written on it.
+#[inline(always)]
+fn write_page(block: Option<RegBlock>, number: Register, value: u32) -> Option<RegBlock>
+    ensures { result ≡ written_to block number value }
+{
+    match block {
+        Some(page) => Some(page.written(number, value)),
+        None => None,
+    }
+}
+
+/// Passes an instruction of the TLB; the return from an exception leads on by itself.
+#[inline(always)]
+fn pass_system(regs: &mut Regs, op: Cp0Op)
+    ensures { regs.new ≡ passed_system op regs.old }
+{
+    if op != Cp0Op::ExceptionReturn {
+        advance(regs);
+    }
+}
+
+/// Passes an instruction that asks nothing of memory, with what it asks of a register on the register page, and answers that page. One of
+/// coprocessor 0 itself never comes here.
+#[inline(always)]
+fn pass(regs: &mut Regs, block: Option<RegBlock>, request: Request) -> Option<RegBlock>
     requires { wanted request ≡ None }
-    ensures { regs.new ≡ passed request regs.old }
+    ensures block { result ≡ block_after request block }
+    ensures after { (v : ℕ) (at : Place) (held : Held) → accessed_through v block at (passed request regs.old) request held ≡ record { registers = regs.new; held = held } }
 {
     match request {
-        Request::Nothing | Request::System(Cp0Op::ExceptionReturn) => {}
-        Request::ReadCp0 { .. } | Request::WriteCp0 { .. } | Request::System(_) => advance(regs),
+        Request::Nothing => block,
+        Request::ReadCp0 { number, target } => {
+            read_page(regs, block, number, target);
+            block
+        }
+        Request::WriteCp0 { number, value } => {
+            let after = write_page(block, number, value);
+            advance(regs);
+            after
+        }
+        Request::System(op) => {
+            pass_system(regs, op);
+            block
+        }
         Request::Load { .. }
         | Request::Store { .. }
         | Request::LoadLinked { .. }
@@ -134,7 +187,8 @@ fn touch<B: Bus>(regs: &mut Regs, bus: &mut B, at: Reached, request: Request) ->
     ensures names { B.names bus.new ≡ B.names bus.old }
     ensures site { B.site bus.new ≡ B.site bus.old }
     ensures told { result ≡ data_told (B.site bus.old).stepping (place_of at) request (B.held bus.old) }
-    ensures after { accessed_through (B.site bus.old).stepping (place_of at) (passed request regs.old) request (B.held bus.old) ≡ record { registers = regs.new; held = B.held bus.new } }
+    ensures after { (block : Option RegBlock) → accessed_through (B.site bus.old).stepping block (place_of at) (passed request regs.old) request (B.held bus.old) ≡ record { registers = regs.new; held = B.held bus.new } }
+    ensures block { (block : Option RegBlock) → block_after request block ≡ block }
 {
     let Reached { page, frame } = at;
     match request {
@@ -174,10 +228,11 @@ fn touch<B: Bus>(regs: &mut Regs, bus: &mut B, at: Reached, request: Request) ->
     }
 }
 
-/// What an instruction asked of memory.
+/// What an instruction asked of memory, or of a register on the register page.
 #[inline(always)]
 fn access<B: Bus>(
     regs: &mut Regs,
+    block: &mut Option<RegBlock>,
     mode: Mode,
     tlb: &HwTlb,
     bus: &mut B,
@@ -188,10 +243,10 @@ fn access<B: Bus>(
     requires { AllServe (B.held bus.old) (halves tlb.now) }
     ensures names { B.names bus.new ≡ B.names bus.old }
     ensures site { B.site bus.new ≡ B.site bus.old }
-    ensures does { Does (outcome_of (B.site bus.old).stepping (B.held bus.old) (accesses (sight_of mode.user mode.asid false (halves tlb.now) (B.site bus.old)) word (place_of fetched) (record { registers = passed request regs.old; request = request }) (wanted request))) regs.old regs.new (B.held bus.old) (B.held bus.new) result }
+    ensures does { Does (outcome_of (B.site bus.old).stepping block.old (B.held bus.old) (accesses (sight_of mode.user mode.asid false (halves tlb.now) (B.site bus.old)) word (place_of fetched) (record { registers = passed request regs.old; request = request }) (wanted request))) (left_by regs.old block.old (B.held bus.old)) (left_by regs.new block.new (B.held bus.new)) result }
 {
     let Some(wanted) = asked(&request) else {
-        pass(regs, request);
+        *block = pass(regs, *block, request);
         return direct(fetched, DataAccess::NoData);
     };
     match reach(mode, tlb, bus, wanted) {
@@ -221,11 +276,48 @@ fn begin(regs: &mut Regs, word: u32) -> Result<Request, Exception>
     execute(&decode(word), regs)
 }
 
-/// Makes one step, or tells why the processor traps, and then nothing changes. `line` tells whether an interrupt is enabled
-/// and pending; `last` is what the fetches of the last page reached, as long as the mode, the address space and the TLB stay.
+/// The same of what has a register page. It stands beside the other so that each has one caller, into which the compiler puts it.
+fn begin_paged(regs: &mut Regs, word: u32) -> Result<Request, Exception>
+    ensures { Executes (effect (decoded word) regs.old) regs.old regs.new result }
+{
+    execute(&decode(word), regs)
+}
+
+/// The same, where the register page is open of its register.
+#[inline(always)]
+fn begin_on_page(
+    regs: &mut Regs,
+    paged: bool,
+    is_open: bool,
+    word: u32,
+) -> Result<Request, Exception>
+    requires closed { paged ≡ false → is_open ≡ false }
+    ensures { Executes (opened is_open (effect (decoded word) regs.old)) regs.old regs.new result }
+{
+    if !paged {
+        return begin(regs, word);
+    }
+    match begin_paged(regs, word) {
+        Ok(request) => Ok(redirected(is_open, request)),
+        Err(exception) => Err(exception),
+    }
+}
+
+/// Whether the register page is open.
+#[inline(always)]
+fn is_open_to(block: &Option<RegBlock>, user: bool) -> bool
+    ensures { result ≡ (is_some block.now && not user) }
+{
+    block.is_some() && !user
+}
+
+/// Makes one step, or tells why the processor traps, and then nothing changes. `block` is the register page of what runs, in a guest that
+/// has it, which `paged` tells; `line` tells whether an interrupt is enabled and pending; `last` is what the fetches of the last page reached, as long as the mode, the address space and the TLB stay.
 #[inline(always)]
 pub fn step<B: Bus>(
     regs: &mut Regs,
+    block: &mut Option<RegBlock>,
+    paged: bool,
     user: bool,
     asid: u8,
     line: bool,
@@ -233,11 +325,12 @@ pub fn step<B: Bus>(
     bus: &mut B,
     last: &mut Option<FetchPage>,
 ) -> HwStep
+    requires paged { paged ≡ is_some block.old }
     requires serves { AllServe (B.held bus.old) (halves tlb.now) }
     requires last { IsFetchPage (sight_of user asid false (halves tlb.now) (B.site bus.old)) last.old }
     ensures names { B.names bus.new ≡ B.names bus.old }
     ensures site { B.site bus.new ≡ B.site bus.old }
-    ensures does { Does (hardware_outcome (sight_of user asid line (halves tlb.now) (B.site bus.old)) (B.site bus.old).stepping (B.held bus.old) regs.old) regs.old regs.new (B.held bus.old) (B.held bus.new) result }
+    ensures does { Does (hardware_outcome (with_page block.old (sight_of user asid line (halves tlb.now) (B.site bus.old))) (B.site bus.old).stepping (B.held bus.old) regs.old) (left_by regs.old block.old (B.held bus.old)) (left_by regs.new block.new (B.held bus.new)) result }
     ensures last { IsFetchPage (sight_of user asid false (halves tlb.now) (B.site bus.old)) last.new }
 {
     if line {
@@ -251,8 +344,8 @@ pub fn step<B: Bus>(
     if is_privileged(word) {
         return HwStep::Trap(TrapCause::Privileged(word));
     }
-    match begin(regs, word) {
-        Ok(request) => access(regs, mode, tlb, bus, word, at, request),
+    match begin_on_page(regs, paged, is_open_to(block, user), word) {
+        Ok(request) => access(regs, block, mode, tlb, bus, word, at, request),
         Err(exception) => HwStep::Trap(TrapCause::Raised(exception)),
     }
 }

@@ -1,5 +1,5 @@
 -- How the places follow from the rooms.
-use Rattle.std.proofs.Common.{◌≡◌, inl, inr, ℕ, ◌+◌, ◌-◌, ◌*◌, ◌<◌, ◌≤◌, suc, zero, nat_lt, Bool, true, false, not, List, length, get_or, set, map, take, drop, ◌++◌, find, Option, Some, None, refl, sym, arith}
+use Rattle.std.proofs.Common.{◌≡◌, inl, inr, ℕ, ◌+◌, ◌-◌, ◌*◌, ◌<◌, ◌≤◌, suc, zero, nat_lt, Bool, true, false, not, List, length, get_or, set, map, take, drop, ◌++◌, find, Option, Some, None, refl, sym, ap, ◌∙◌, if◌then◌else◌, arith}
 use Rattle.std.specs.List.{range_with_len}
 use Rattle.std.proofs.lemmas.Bool.{cases_Bool, cases_eq, lt-ltb}
 use Rattle.std.proofs.lemmas.List.{get_or-map, map-set, length-map, length-append, length-take, length-drop}
@@ -16,6 +16,20 @@ half_at-places rs k d within = get_or-map half_in rs k d None within
 
 pub places-set : (rs : List Room) (k : ℕ) (r : Room) → places_of (set rs k r) ≡ set (places_of rs) k (half_in r)
 places-set rs k r = map-set half_in rs k r
+
+-- a place that has such a half has that of its room
+pub such-half : (q : Half → Bool) (rs : List Room) (place : ℕ) (d : Room) → place < length rs → has_such q (half_at (places_of rs) place) ≡ true → (half_at (places_of rs) place ≡ Some (half_of (get_or rs place d))) × (q (half_of (get_or rs place d)) ≡ true)
+such-half q rs place d within is = by (nat_lt r.key 268435456) refl (sym (ap (has_such q) there) ∙ is)
+  where
+    r : Room
+    r = get_or rs place d
+
+    there : half_at (places_of rs) place ≡ half_in r
+    there = half_at-places rs place d within
+
+    by : (b : Bool) → nat_lt r.key 268435456 ≡ b → has_such q (if b then Some (half_of r) else None) ≡ true → (half_at (places_of rs) place ≡ Some (half_of r)) × (q (half_of r) ≡ true)
+    by true is here = (there ∙ ap (λ (b : Bool). if b then Some (half_of r) else None) is, here)
+    by false is here = absurd cc
 
 -- what a test of a room says of its place
 pub gone : (q : Half → Bool) (r : Room) → q (half_of r) ≡ true → emptied q (half_in r) ≡ None

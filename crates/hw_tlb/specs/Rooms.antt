@@ -1,5 +1,5 @@
 -- How the processor's TLB keeps its halves: a room for each place, and for some virtual pages a hint where to look first.
-use Rattle.std.specs.Prelude.{◌≡◌, ◌≢◌, ℕ, ◌/◌, ◌%◌, ◌<◌, ◌≤◌, nat_lt, length, map, if◌then◌else◌, Bool, true, false, List, Option, Some, None, slice_index_or}
+use Rattle.std.specs.Prelude.{◌≡◌, ◌≢◌, ℕ, ◌/◌, ◌%◌, ◌<◌, ◌≤◌, ◌==◌, nat_lt, length, map, if◌then◌else◌, Bool, true, false, List, Option, Some, None, slice_index_or}
 use Rattle.base_words.specs.Halves.{Half, is_of, clash}
 use Rattle.hw_tlb.specs.declared.room.Room.{Room}
 use Rattle.hw_tlb.specs.Tlb.{half_at, AreSided, ArePaired}
@@ -32,6 +32,14 @@ is_keyed key h = is_of (key / 256) (key % 256) h
 pub record IsPlaceOf (key : ℕ) (places : List (Option Half)) (place : ℕ) : Type 0 where
   pub found : place < 96 → has_such (is_keyed key) (half_at places place) ≡ true
   pub none : 96 ≤ place → (k : ℕ) → k < 96 → has_such (is_keyed key) (half_at places k) ≡ false
+
+-- the place of a half that names this frame, or 96 where there is none
+abbrev pub is_naming : ℕ → Half → Bool
+is_naming frame h = h.frame == frame
+
+pub record IsPlaceNaming (frame : ℕ) (places : List (Option Half)) (place : ℕ) : Type 0 where
+  pub found : place < 96 → has_such (is_naming frame) (half_at places place) ≡ true
+  pub none : 96 ≤ place → (k : ℕ) → k < 96 → has_such (is_naming frame) (half_at places k) ≡ false
 
 -- no two places have halves that clash
 abbrev pub AreApart : List (Option Half) → Type 0

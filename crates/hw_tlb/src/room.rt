@@ -5,7 +5,7 @@ ghost use Rattle.hw_tlb.specs.Tlb.{side as side_of, are_beside};
 ghost use Rattle.hw_tlb.specs.Lookup.{through};
 ghost use Rattle.hw_tlb.specs.Dropping.{emptied};
 ghost use Rattle.hw_tlb.specs.Filling.{has_such};
-ghost use Rattle.hw_tlb.specs.Rooms.{half_of, half_in, is_keyed};
+ghost use Rattle.hw_tlb.specs.Rooms.{half_of, half_in, is_keyed, is_naming};
 
 use crate::answer::HwAnswer;
 use base_words::{FrameNo, Ppn};
@@ -81,6 +81,13 @@ impl Room {
         ensures { result ≡ ((half_of self.now).page == page.0) }
     {
         self.page.0 == page.0
+    }
+
+    /// Whether there is a half that names this frame.
+    pub fn leads_to(&self, frame: FrameNo) -> bool
+        ensures { result ≡ has_such (is_naming frame.0) (half_in self.now) }
+    {
+        self.key < NO_KEY && self.frame.0 == frame.0
     }
 
     /// Whether there is a half, of the key's virtual page in the key's address space.

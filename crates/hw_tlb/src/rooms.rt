@@ -2,10 +2,10 @@
 ghost use Rattle.std.specs.Prelude.{◌≡◌, ◌/◌, ◌==◌, ◌^◌, ◌<◌, map};
 ghost use Rattle.base_words.specs.Halves.{clash};
 ghost use Rattle.hw_tlb.specs.Dropping.{emptied};
-ghost use Rattle.hw_tlb.specs.Rooms.{IsPlaceOf, half_of, places_of};
+ghost use Rattle.hw_tlb.specs.Rooms.{IsPlaceNaming, IsPlaceOf, half_of, places_of};
 
 use crate::room::Room;
-use base_words::Ppn;
+use base_words::{FrameNo, Ppn};
 
 /// The places of all entries.
 pub const PLACES: u8 = 96;
@@ -19,6 +19,18 @@ pub fn far_place(rooms: &[Room; 96], key: u32) -> u8
 {
     for place in 0..PLACES {
         if rooms[place as usize].matches(key) {
+            return place;
+        }
+    }
+    PLACES
+}
+
+/// The place of a half that names this frame; `PLACES` where there is none.
+pub fn place_of_frame(rooms: &[Room; 96], frame: FrameNo) -> u8
+    ensures { IsPlaceNaming frame.0 (places_of rooms.now) result }
+{
+    for place in 0..PLACES {
+        if rooms[place as usize].leads_to(frame) {
             return place;
         }
     }

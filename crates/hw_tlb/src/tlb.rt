@@ -1,6 +1,7 @@
 //! The processor's TLB.
-ghost use Rattle.std.specs.Prelude.{◌≡◌, ◌/◌, ◌==◌, ◌<◌, [], filter};
-ghost use Rattle.base_words.specs.Halves.{Fills, without_page, without_pair};
+ghost use Rattle.std.specs.Prelude.{◌≡◌, ◌≢◌, ◌/◌, ◌==◌, ◌<◌, [], filter, IfSome, IfNone};
+ghost use Rattle.base_words.specs.Halves.{Half, Fills, without_page, without_pair};
+ghost use Rattle.base_words.specs.Membership.{Has};
 ghost use Rattle.hw_tlb.specs.Tlb.{halves, no_halves, IsConsistent};
 ghost use Rattle.hw_tlb.specs.Dropping.{dropped};
 ghost use Rattle.hw_tlb.specs.Lookup.{looked_up};
@@ -9,7 +10,7 @@ ghost use Rattle.hw_tlb.specs.Filling.{half_for, filled};
 use crate::answer::HwAnswer;
 use crate::entries::{entry_for, put};
 use crate::room::{PAGE, Room, key_of};
-use crate::rooms::{PLACES, drop_named, drop_paired, far_place};
+use crate::rooms::{PLACES, drop_named, drop_paired, far_place, place_of_frame};
 use base_words::{FrameNo, Ppn};
 use std::marker::Model;
 
@@ -77,6 +78,20 @@ impl HwTlb {
             self.rooms[place as usize].answer(store)
         } else {
             HwAnswer::Miss
+        }
+    }
+
+    /// The page of a half that names this frame; nothing where there is none.
+    #[cold]
+    pub fn page_of(&self, frame: FrameNo) -> Option<Ppn>
+        ensures named { IfSome result (λ page. (h : Half) × Has (halves self.now) h × (h.frame ≡ frame.0) × (h.page ≡ page.0)) }
+        ensures none { IfNone result ((h : Half) → Has (halves self.now) h → h.frame ≢ frame.0) }
+    {
+        let place = place_of_frame(&self.rooms, frame);
+        if place < PLACES {
+            Some(self.rooms[place as usize].page)
+        } else {
+            None
         }
     }
 

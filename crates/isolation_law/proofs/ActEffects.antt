@@ -22,7 +22,8 @@ use Rattle.private_machine.specs.DevicePage.{device_register, transfer_of}
 use Rattle.private_machine.specs.Devices.{device_done}
 use Rattle.private_machine.specs.Links.{page_filled, page_bytes}
 use Rattle.private_machine.specs.OwnStep.{led, answered, fetched, usable, executed, decided, attempted, settled, acted, own_step, joined, is_usable}
-use Rattle.private_machine.specs.PrivateMachine.{PrivateMachine, vcpu, left, on_vcpu}
+use Rattle.private_machine.specs.PrivateMachine.{PrivateMachine, vcpu, left, on_vcpu, is_open}
+use Rattle.private_machine.specs.RegisterPage.{redirected}
 use Rattle.private_machine.specs.Vcpu.{raising, ticking}
 use Rattle.private_machine.specs.StepAct.{stores_at, stores_linked, writes_entry, system_act, act_of, act_executed, act_decided, act_next}
 use Rattle.private_machine.specs.DeviceAct.{Act, StoresTo, ReadsDisk, WritesDisk, SendsPage, WritesEntry, NoAct, commands, sends, at_register, at_offset, stores_to_device}
@@ -36,6 +37,7 @@ pub record Same (m n : PrivateMachine) : Type 0 where
   pub pages : n.pages ≡ m.pages
   pub memory : n.memory ≡ m.memory
   pub disk : n.disk ≡ m.disk
+  pub paged : n.register_page ≡ m.register_page
 
 abbrev pub After : PrivateMachine → Act → PrivateMachine → Type 0
 After m (StoresTo q) n = Unit {0}
@@ -52,29 +54,29 @@ send-after : (m : PrivateMachine) (v : ℕ) (regs : Regs) (value : ℕ) → Afte
 send-after m v regs value = grind arith
 
 register-after : (m : PrivateMachine) (v : ℕ) (regs : Regs) (value : ℕ) (r : DeviceRegister) → After m (at_register m (transfer_of m.devices v) value r) (device_done (left m v regs) v value r)
-register-after m v regs value Console = record { pages = refl; memory = refl; disk = refl }
-register-after m v regs value Halt = record { pages = refl; memory = refl; disk = refl }
-register-after m v regs value Input = record { pages = refl; memory = refl; disk = refl }
-register-after m v regs value Queued = record { pages = refl; memory = refl; disk = refl }
-register-after m v regs value Number = record { pages = refl; memory = refl; disk = refl }
-register-after m v regs value Vcpus = record { pages = refl; memory = refl; disk = refl }
-register-after m v regs value Call = record { pages = refl; memory = refl; disk = refl }
-register-after m v regs value Answered = record { pages = refl; memory = refl; disk = refl }
-register-after m v regs value DiskBlock = record { pages = refl; memory = refl; disk = refl }
-register-after m v regs value DiskPage = record { pages = refl; memory = refl; disk = refl }
+register-after m v regs value Console = record { pages = refl; memory = refl; disk = refl; paged = refl }
+register-after m v regs value Halt = record { pages = refl; memory = refl; disk = refl; paged = refl }
+register-after m v regs value Input = record { pages = refl; memory = refl; disk = refl; paged = refl }
+register-after m v regs value Queued = record { pages = refl; memory = refl; disk = refl; paged = refl }
+register-after m v regs value Number = record { pages = refl; memory = refl; disk = refl; paged = refl }
+register-after m v regs value Vcpus = record { pages = refl; memory = refl; disk = refl; paged = refl }
+register-after m v regs value Call = record { pages = refl; memory = refl; disk = refl; paged = refl }
+register-after m v regs value Answered = record { pages = refl; memory = refl; disk = refl; paged = refl }
+register-after m v regs value DiskBlock = record { pages = refl; memory = refl; disk = refl; paged = refl }
+register-after m v regs value DiskPage = record { pages = refl; memory = refl; disk = refl; paged = refl }
 register-after m v regs value DiskCommand = command-after m v regs value
-register-after m v regs value DiskStatus = record { pages = refl; memory = refl; disk = refl }
-register-after m v regs value SendPage = record { pages = refl; memory = refl; disk = refl }
-register-after m v regs value SendLength = record { pages = refl; memory = refl; disk = refl }
+register-after m v regs value DiskStatus = record { pages = refl; memory = refl; disk = refl; paged = refl }
+register-after m v regs value SendPage = record { pages = refl; memory = refl; disk = refl; paged = refl }
+register-after m v regs value SendLength = record { pages = refl; memory = refl; disk = refl; paged = refl }
 register-after m v regs value Send = send-after m v regs value
-register-after m v regs value Armed = record { pages = refl; memory = refl; disk = refl }
-register-after m v regs value PacketLength = record { pages = refl; memory = refl; disk = refl }
-register-after m v regs value PacketSender = record { pages = refl; memory = refl; disk = refl }
-register-after m v regs value PacketTaken = record { pages = refl; memory = refl; disk = refl }
+register-after m v regs value Armed = record { pages = refl; memory = refl; disk = refl; paged = refl }
+register-after m v regs value PacketLength = record { pages = refl; memory = refl; disk = refl; paged = refl }
+register-after m v regs value PacketSender = record { pages = refl; memory = refl; disk = refl; paged = refl }
+register-after m v regs value PacketTaken = record { pages = refl; memory = refl; disk = refl; paged = refl }
 
 -- an exception
 raised-after : (m : PrivateMachine) (v : ℕ) (x : Exception) → Same m (settled m v (Err x))
-raised-after m v x = record { pages = refl; memory = refl; disk = refl }
+raised-after m v x = record { pages = refl; memory = refl; disk = refl; paged = refl }
 
 offset-after : (m : PrivateMachine) (v : ℕ) (regs : Regs) (value : ℕ) (o : Option DeviceRegister) → After m (at_offset m (transfer_of m.devices v) value o) (settled m v (device_stored m v regs value o))
 offset-after m v regs value None = raised-after m v (BusError Store)
@@ -110,12 +112,12 @@ device-read m v regs loads.WordRight target offset = raised-after m v (BusError 
 
 loaded-after : (m : PrivateMachine) (v : ℕ) (regs : Regs) (kind : LoadKind) (target : ℕ) (place : Result Place Exception) → Same m (settled m v (loaded m v regs kind target place))
 loaded-after m v regs kind target (Err x) = raised-after m v x
-loaded-after m v regs kind target (Ok (Memory offset)) = record { pages = refl; memory = refl; disk = refl }
+loaded-after m v regs kind target (Ok (Memory offset)) = record { pages = refl; memory = refl; disk = refl; paged = refl }
 loaded-after m v regs kind target (Ok (Device offset)) = device-read m v regs kind target offset
 
 linked-after : (m : PrivateMachine) (v : ℕ) (regs : Regs) (target : ℕ) (place : Result Place Exception) → Same m (settled m v (linked_load m v regs target place))
 linked-after m v regs target (Err x) = raised-after m v x
-linked-after m v regs target (Ok (Memory offset)) = record { pages = refl; memory = refl; disk = refl }
+linked-after m v regs target (Ok (Memory offset)) = record { pages = refl; memory = refl; disk = refl; paged = refl }
 linked-after m v regs target (Ok (Device offset)) = raised-after m v (BusError Load)
 
 conditional-after : (m : PrivateMachine) (v : ℕ) (regs : Regs) (target value : ℕ) (place : Result Place Exception) → After m (stores_linked place) (settled m v (conditional_store m v regs target value place))
@@ -127,25 +129,25 @@ entry-after : (m n : PrivateMachine) (v index : ℕ) → Same m n → After m (w
 entry-after m n v index same = grind arith
 
 system-after : (m : PrivateMachine) (v : ℕ) (regs : Regs) (op : Cp0Op) → After m (system_act m v op) (settled m v (answered m v regs (asks.System op)))
-system-after m v regs TlbRead = record { pages = refl; memory = refl; disk = refl }
-system-after m v regs TlbWriteIndexed = entry-after m (settled m v (answered m v regs (asks.System TlbWriteIndexed))) v (vcpu m v).cp0.index.entry (record { pages = refl; memory = refl; disk = refl })
-system-after m v regs TlbWriteRandom = entry-after m (settled m v (answered m v regs (asks.System TlbWriteRandom))) v (vcpu m v).cp0.random (record { pages = refl; memory = refl; disk = refl })
-system-after m v regs TlbProbe = record { pages = refl; memory = refl; disk = refl }
-system-after m v regs ExceptionReturn = record { pages = refl; memory = refl; disk = refl }
+system-after m v regs TlbRead = record { pages = refl; memory = refl; disk = refl; paged = refl }
+system-after m v regs TlbWriteIndexed = entry-after m (settled m v (answered m v regs (asks.System TlbWriteIndexed))) v (vcpu m v).cp0.index.entry (record { pages = refl; memory = refl; disk = refl; paged = refl })
+system-after m v regs TlbWriteRandom = entry-after m (settled m v (answered m v regs (asks.System TlbWriteRandom))) v (vcpu m v).cp0.random (record { pages = refl; memory = refl; disk = refl; paged = refl })
+system-after m v regs TlbProbe = record { pages = refl; memory = refl; disk = refl; paged = refl }
+system-after m v regs ExceptionReturn = record { pages = refl; memory = refl; disk = refl; paged = refl }
 
 request-after : (m : PrivateMachine) (v : ℕ) (regs : Regs) (r : Request) → After m (act_of m v r) (settled m v (answered m v regs r))
-request-after m v regs asks.Nothing = record { pages = refl; memory = refl; disk = refl }
+request-after m v regs asks.Nothing = record { pages = refl; memory = refl; disk = refl; paged = refl }
 request-after m v regs (asks.Load kind address target) = loaded-after m v regs kind target (led m v (load_unit kind) Load address)
 request-after m v regs (asks.Store kind address value) = stored-after m v regs kind value (led m v (store_unit kind) Store address)
 request-after m v regs (asks.LoadLinked address target) = linked-after m v regs target (led m v 4 Load address)
 request-after m v regs (asks.StoreConditional address value target) = conditional-after m v regs target value (led m v 4 Store address)
-request-after m v regs (asks.ReadCp0 number target) = record { pages = refl; memory = refl; disk = refl }
-request-after m v regs (asks.WriteCp0 number value) = record { pages = refl; memory = refl; disk = refl }
+request-after m v regs (asks.ReadCp0 number target) = record { pages = refl; memory = refl; disk = refl; paged = refl }
+request-after m v regs (asks.WriteCp0 number value) = record { pages = refl; memory = refl; disk = refl; paged = refl }
 request-after m v regs (asks.System op) = system-after m v regs op
 
 executed-after : (m : PrivateMachine) (v : ℕ) (does : Result Effect Exception) → After m (act_executed m v does) (settled m v (executed m v does))
 executed-after m v (Err x) = raised-after m v x
-executed-after m v (Ok does) = request-after m v does.registers does.request
+executed-after m v (Ok does) = request-after m v does.registers (redirected (is_open m v) does.request)
 
 decided-after : (m : PrivateMachine) (v : ℕ) (word : Result ℕ Exception) → After m (act_decided m v word) (settled m v (decided m v word))
 decided-after m v (Err x) = raised-after m v x
@@ -153,17 +155,17 @@ decided-after m v (Ok word) = executed-after m v (usable (is_usable word (in_use
 
 acted-after : (m : PrivateMachine) (v : ℕ) → After m (act_next m v) (acted m v)
 acted-after m v = elim (interrupts (vcpu m v).cp0) as (λ b. After m (if b then NoAct else act_decided m v (fetched m v)) (if b then on_vcpu m v (raising Interrupt) else settled m v (attempted m v))) [
-  | true ↦ record { pages = refl; memory = refl; disk = refl }
+  | true ↦ record { pages = refl; memory = refl; disk = refl; paged = refl }
   | false ↦ decided-after m v (fetched m v)
 ]
 
 ticked-after : (m n : PrivateMachine) (v : ℕ) (act : Act) → After m act n → After m act (on_vcpu n v ticking)
 ticked-after m n v (StoresTo q) after = tt
-ticked-after m n v (ReadsDisk b q) after = record { pages = after.pages; memory = after.memory; disk = after.disk }
-ticked-after m n v (WritesDisk b q) after = record { pages = after.pages; memory = after.memory; disk = after.disk }
-ticked-after m n v (SendsPage q length to) after = record { pages = after.pages; memory = after.memory; disk = after.disk }
-ticked-after m n v (WritesEntry index) after = record { pages = after.pages; memory = after.memory; disk = after.disk }
-ticked-after m n v NoAct after = record { pages = after.pages; memory = after.memory; disk = after.disk }
+ticked-after m n v (ReadsDisk b q) after = record { pages = after.pages; memory = after.memory; disk = after.disk; paged = after.paged }
+ticked-after m n v (WritesDisk b q) after = record { pages = after.pages; memory = after.memory; disk = after.disk; paged = after.paged }
+ticked-after m n v (SendsPage q length to) after = record { pages = after.pages; memory = after.memory; disk = after.disk; paged = after.paged }
+ticked-after m n v (WritesEntry index) after = record { pages = after.pages; memory = after.memory; disk = after.disk; paged = after.paged }
+ticked-after m n v NoAct after = record { pages = after.pages; memory = after.memory; disk = after.disk; paged = after.paged }
 
 -- one own step of a virtual processor that hasn't halted
 pub step-after : (m : PrivateMachine) (v : ℕ) → (vcpu m v).halted ≡ false → After (joined m v) (act_next (joined m v) v) (own_step m v)

@@ -16,7 +16,8 @@ use Rattle.base_words.specs.Instruction.{Effect, effect}
 use Rattle.base_words.specs.declared.device.Transfer.{Transfer}
 use Rattle.private_machine.specs.DevicePage.{device_register, transfer_of}
 use Rattle.private_machine.specs.OwnStep.{led, fetched, usable, is_usable}
-use Rattle.private_machine.specs.PrivateMachine.{PrivateMachine, vcpu}
+use Rattle.private_machine.specs.PrivateMachine.{PrivateMachine, vcpu, is_open}
+use Rattle.private_machine.specs.RegisterPage.{redirected}
 use Rattle.private_machine.specs.StepAct.{stores_at, stores_linked, writes_entry, system_act, act_of, act_executed, act_decided, act_next}
 use Rattle.private_machine.specs.DeviceAct.{Act, StoresTo, ReadsDisk, WritesDisk, SendsPage, WritesEntry, NoAct, commands, sends, at_register, at_offset, stores_to_device}
 use Rattle.base_words.specs.declared.device.DeviceRegister.{DeviceRegister}
@@ -87,7 +88,7 @@ request-in m v (asks.System op) = system-in m v op
 
 executed-in : (m : PrivateMachine) (v : ℕ) (does : Result Effect Exception) → In m (act_executed m v does)
 executed-in m v (Err x) = tt
-executed-in m v (Ok does) = request-in m v does.request
+executed-in m v (Ok does) = request-in m v (redirected (is_open m v) does.request)
 
 decided-in : (m : PrivateMachine) (v : ℕ) (word : Result ℕ Exception) → In m (act_decided m v word)
 decided-in m v (Err x) = tt

@@ -1,14 +1,12 @@
 -- What is known of a page for which a move is asked.
-use Rattle.std.proofs.Common.{◌≡◌, ℕ, Bool, true, false, Option, Some, None, Result, Ok, Err, length, ⊎_elim, arith}
-use Rattle.private_machine.specs.HardwareStep.{Trap, Done}
+use Rattle.std.proofs.Common.{◌≡◌, ℕ, Bool, true, false, Option, Some, None, length, ⊎_elim, sym, subst, arith}
 use Rattle.private_machine.specs.Operation.{Packet as InHand, Operation}
 use Rattle.isolation_law.specs.Causes.{by_page, seeks_frame, first_cause}
 use Rattle.isolation_law.specs.GuestState.{GuestState, page}
-use Rattle.isolation_law.specs.MoveRows.{Asks, IsPlanned}
-use Rattle.isolation_law.specs.Needs.{for_change, needed, for_lost, of_step, for_packet}
+use Rattle.isolation_law.specs.MoveRows.{Asks, IsPlanned, StepLoses}
+use Rattle.isolation_law.specs.Needs.{for_change, needed, for_packet}
 use Rattle.isolation_law.specs.Parts.{Wish}
 use Rattle.isolation_law.specs.StepAct.{at_hand}
-use Rattle.isolation_law.specs.Traps.{step_on}
 use Rattle.private_machine.specs.DeviceAct.{Act, StoresTo, ReadsDisk, WritesDisk, SendsPage, WritesEntry, NoAct}
 use Rattle.base_words.specs.declared.moves.By.{By}
 use Rattle.base_words.specs.declared.moves.By.TheVariants.{Plan, Due, Step, Packet}
@@ -55,18 +53,14 @@ needed-fits s v shares NoAct r k o needs = cc
 for_packet-fits : (s : GuestState) (shares : Bool) (packet : InHand) (q r : ℕ) (k : MoveKind) (o : Option Operation) → for_packet s shares packet q ≡ Some (record { page = r; kind = k; operation = o }) → SharedFits (page s r).shared k
 for_packet-fits s shares packet q r k o needs = grind (arith, for_change-fits s q r k o)
 
-lost-fits : (s : GuestState) (trap : Trap) (r : ℕ) (k : MoveKind) (o : Option Operation) → for_lost s trap ≡ Some (record { page = r; kind = k; operation = o }) → SharedFits (page s r).shared k
-lost-fits s trap r k o needs = grind arith
-
-of_step-fits : (s : GuestState) (step : Result Done Trap) (r : ℕ) (k : MoveKind) (o : Option Operation) → of_step s step ≡ Some (record { page = r; kind = k; operation = o }) → SharedFits (page s r).shared k
-of_step-fits s (Ok done) r k o needs = cc
-of_step-fits s (Err trap) r k o needs = lost-fits s trap r k o needs
+collapse-fits : (shared : Bool) (k : MoveKind) → k ≡ Collapse → SharedFits shared k
+collapse-fits shared k is = subst (SharedFits shared) (sym is) tt
 
 pub asks-fits : (s : GuestState) (by : By) (wish : Wish) (o : Option Operation) → Asks s by wish o → SharedFits (page s wish.page).shared wish.kind
 asks-fits s (Plan p) wish o asks = planned s wish asks.0.planned (first_cause-own s p.0 wish asks.1)
 asks-fits s (Due p) wish o asks = due_fits wish.kind (page s wish.page).shared (first_cause-own s p.0 wish asks.1) asks.0.seeks
 asks-fits s (Step p) wish o asks = ⊎_elim
     (needed-fits s asks.v asks.shares (at_hand s asks.v) wish.page wish.kind o)
-    (of_step-fits s (step_on s p.0 asks.v) wish.page wish.kind o)
+    (λ (lost : StepLoses s p.0 asks.v wish o). collapse-fits (page s wish.page).shared wish.kind lost.is_collapse)
     asks.needs
 asks-fits s Packet wish o asks = for_packet-fits s asks.shares asks.packet wish.page wish.page wish.kind o asks.needs

@@ -1,27 +1,25 @@
 -- A begin keeps coherence and content.
-use Rattle.std.proofs.Common.{◌≡◌, ℕ, zero, suc, ◌<◌, ◌≤◌, ◌==◌, Bool, true, false, not, ◌&&◌, cond, Option, Some, None, List, [], ◌∷◌, length, map, set, refl, sym, ap, ◌∙◌, subst, arith, true≢false, if◌then◌else◌, inr, ⊎_elim, Result, Ok, Err, get_or-set_same}
+use Rattle.std.proofs.Common.{◌≡◌, ℕ, zero, suc, ◌<◌, ◌≤◌, ◌==◌, Bool, true, false, not, ◌&&◌, cond, Option, Some, None, List, [], ◌∷◌, length, map, set, refl, sym, ap, ◌∙◌, subst, arith, true≢false, if◌then◌else◌, inr, ⊎_elim, get_or-set_same}
 use Rattle.std.proofs.lemmas.Bool.{eq-eqb, eqb-true}
 use Rattle.std.proofs.lemmas.List.{length-map}
 use Rattle.std.specs.Prelude.{count_by, slice_get, remove}
 use Rattle.base_words.specs.Membership.{Has}
 use Rattle.private_machine.specs.Backing.{Copy, Change, Migrates, Replicates, Collapses, Breaks, TakesShared, GivesShared, no_page}
-use Rattle.private_machine.specs.HardwareStep.{Trap, Done}
 use Rattle.private_machine.specs.Operation.{Packet as InHand, Operation, ReadsBlock, Delivers}
 use Rattle.private_machine.specs.OwnStep.{joined, input_joined}
 use Rattle.private_machine.specs.PageMove.{kind_of, begun}
 use Rattle.private_machine.specs.PrivateMachine.{PrivateMachine}
 use Rattle.private_machine.specs.SecondLevel.{Second, seconds_without_page}
-use Rattle.isolation_law.specs.Coherence.{Coherent}
+use Rattle.isolation_law.specs.Coherence.{Consistent}
 use Rattle.private_machine.specs.DeviceAct.{Act, StoresTo, ReadsDisk, WritesDisk, SendsPage, WritesEntry, NoAct}
 use Rattle.isolation_law.specs.PageRules.{ChangeRule, HasBytes, breaks, is_breaking, needs_spare, sources}
 use Rattle.private_machine.specs.Disk.{block_now}
 use Rattle.isolation_law.specs.Content.{content}
 use Rattle.isolation_law.specs.GuestState.{GuestState, page, second_level, with_page, hand_place, operation_of, with_operation}
-use Rattle.isolation_law.specs.MoveRows.{Asks, Fits, bytes_for, Begins}
-use Rattle.isolation_law.specs.Needs.{needed, of_step, for_packet}
+use Rattle.isolation_law.specs.MoveRows.{Asks, Fits, StepLoses, bytes_for, Begins}
+use Rattle.isolation_law.specs.Needs.{needed, for_packet}
 use Rattle.isolation_law.specs.Parts.{Wish}
 use Rattle.isolation_law.specs.StepAct.{at_hand}
-use Rattle.isolation_law.specs.Traps.{step_on}
 use Rattle.base_words.specs.declared.moves.By.{By}
 use Rattle.base_words.specs.declared.moves.By.TheVariants.{Plan, Due, Step, Packet}
 use Rattle.base_words.specs.declared.moves.MoveKind.{MoveKind}
@@ -47,9 +45,8 @@ needed-whole s v shares (SendsPage q length to) r k o within needs = grind arith
 needed-whole s v shares (WritesEntry index) r k o within needs = cc
 needed-whole s v shares NoAct r k o within needs = cc
 
-lost-whole : (s : GuestState) (step : Result Done Trap) (r : ℕ) (k : MoveKind) (o : Option Operation) → of_step s step ≡ Some (record { page = r; kind = k; operation = o }) → IsWhole s o
-lost-whole s (Ok done) r k o needs = cc
-lost-whole s (Err trap) r k o needs = grind arith
+none-whole : (s : GuestState) (o : Option Operation) → o ≡ None → IsWhole s o
+none-whole s o is = subst (IsWhole s) (sym is) tt
 
 packet-whole : (s : GuestState) (shares : Bool) (packet : InHand) (q r : ℕ) (k : MoveKind) (o : Option Operation) → s.hand ≡ Some packet → for_packet s shares packet q ≡ Some (record { page = r; kind = k; operation = o }) → IsWhole s o
 packet-whole s shares packet q r k o hand needs = grind (arith, eqb-true (length packet.bytes) 4096)
@@ -65,18 +62,18 @@ asks-whole s (Step p) wish target o k asks =
     ⊎_elim
     (needed-whole s asks.v asks.shares (at_hand s asks.v) wish.page wish.kind (Some o)
     (λ b q is. blocks_same s asks.v b (subst (Reads m.pages (length m.disk)) is (next-in m asks.v)).0))
-    (lost-whole s (step_on s p.0 asks.v) wish.page wish.kind (Some o))
+    (λ (lost : StepLoses s p.0 asks.v wish (Some o)). none-whole s (Some o) lost.for_none)
     asks.needs
   where
     blocks_same : (s : GuestState) (v b : ℕ) → b < length (joined (content s) v).disk → b < length s.disk
     blocks_same s v b lt = subst (λ (n : ℕ). b < n) (ap length (joined-disk (content s) v) ∙ length-map s.disk block_now) lt
 asks-whole s Packet wish target o k asks = packet-whole s asks.shares asks.packet wish.page wish.page wish.kind (Some o) asks.in_hand asks.needs
 
-target-bytes : (s : GuestState) (target : Copy) (o : Operation) → Coherent s → IsWhole s (Some o) → target.bytes ≡ bytes_for s o → HasBytes (sources s) target.bytes o × (length target.bytes ≡ 4096)
+target-bytes : (s : GuestState) (target : Copy) (o : Operation) → Consistent s → IsWhole s (Some o) → target.bytes ≡ bytes_for s o → HasBytes (sources s) target.bytes o × (length target.bytes ≡ 4096)
 target-bytes s target (ReadsBlock v b) co whole e = (e, ap length e ∙ (co.blocks b whole).given_whole)
 target-bytes s target (Delivers place packet) co whole e = ((e, inr (whole.1, whole.2)), ap length e ∙ whole.0)
 
-begun_change : (s : GuestState) (q node : ℕ) (by : By) (change : Change) (o : Option Operation) (rest : List Copy) → Coherent s → Asks s by (record { page = q; kind = kind_of change; node = node }) o → Fits s node change o rest → ChangeRule (sources s) o (page s q).shared change
+begun_change : (s : GuestState) (q node : ℕ) (by : By) (change : Change) (o : Option Operation) (rest : List Copy) → Consistent s → Asks s by (record { page = q; kind = kind_of change; node = node }) o → Fits s node change o rest → ChangeRule (sources s) o (page s q).shared change
 begun_change s q node by (Migrates target) o rest co asks fits = asks-fits s by (record { page = q; kind = Migrate; node = node }) o asks
 begun_change s q node by (Replicates target) o rest co asks fits = asks-fits s by (record { page = q; kind = Replicate; node = node }) o asks
 begun_change s q node by Collapses o rest co asks fits = tt
@@ -86,7 +83,7 @@ begun_change s q node by (TakesShared target) (Some o) rest co asks fits = targe
 begun_change s q node by (GivesShared target) o rest co asks fits = asks-fits s by (record { page = q; kind = GiveShared; node = node }) o asks
 
 -- the count after the begin, against the spares before and after it
-plain : (s : GuestState) (q : ℕ) (change : Change) (rest : List Copy) → Coherent s → q < length s.pages → (page s q).move ≡ None → breaks change ≡ false → rest ≡ s.spares
+plain : (s : GuestState) (q : ℕ) (change : Change) (rest : List Copy) → Consistent s → q < length s.pages → (page s q).move ≡ None → breaks change ≡ false → rest ≡ s.spares
     → (count_by needs_spare (set s.pages q (begun change (page s q))) ≤ length s.spares) × (count_by needs_spare (set s.pages q (begun change (page s q))) ≤ length rest)
 plain s q change rest co lt none other same =
     let needs : needs_spare (begun change (page s q)) ≡ needs_spare (page s q) = ap (λ b. (page s q).shared && not b) (other ∙ sym (ap is_breaking none)) in
@@ -99,7 +96,7 @@ removed [] i x e = cc
 removed (y ∷ ys) zero x e = refl
 removed (y ∷ ys) (suc i) x e = ap suc (removed ys i x e)
 
-begun_count : (s : GuestState) (q node : ℕ) (change : Change) (o : Option Operation) (rest : List Copy) → Coherent s → q < length s.pages → (page s q).move ≡ None → ChangeRule (sources s) o (page s q).shared change → Fits s node change o rest
+begun_count : (s : GuestState) (q node : ℕ) (change : Change) (o : Option Operation) (rest : List Copy) → Consistent s → q < length s.pages → (page s q).move ≡ None → ChangeRule (sources s) o (page s q).shared change → Fits s node change o rest
     → (count_by needs_spare (set s.pages q (begun change (page s q))) ≤ length s.spares) × (count_by needs_spare (set s.pages q (begun change (page s q))) ≤ length rest)
 begun_count s q node (Migrates target) o rest co lt none rule fits = plain s q (Migrates target) rest co lt none refl fits.2
 begun_count s q node (Replicates target) o rest co lt none rule fits = plain s q (Replicates target) rest co lt none refl fits.2
@@ -114,26 +111,26 @@ begun_count s q node (Breaks target) o rest co lt none rule fits =
     let room = co.enough in
     (omega arith, omega arith)
 
-pub begins_keeps : (s t : GuestState) (q : ℕ) (kind : MoveKind) (node : ℕ) (by : By) → Coherent s → Begins s q kind node by t → Coherent t
+pub begins_keeps : (s t : GuestState) (q : ℕ) (kind : MoveKind) (node : ℕ) (by : By) → Consistent s → Begins s q kind node by t → Consistent t
 begins_keeps s t q kind node by co row =
     let g = page s q in
     let rule = co.by_page q row.is_page in
     let change = row.change in
     let s1 : GuestState = record s { seconds = map (seconds_without_page q) s.seconds } in
     let kept : (v : ℕ) (e : Second) → Has (second_level s1 v) (Some e) → Has (second_level s v) (Some e) × (not (e.page == q) ≡ true) = λ v e has. Has-all_without q s.seconds v e has in
-    let co1 : Coherent s1 = coherent_with_seconds s s1.seconds co (λ v e has. (kept v e has).0) in
+    let co1 : Consistent s1 = coherent_with_seconds s s1.seconds co (λ v e has. (kept v e has).0) in
     let asked = subst (λ (k : MoveKind). Asks s by (record { page = q; kind = k; node = node }) row.operation) (sym row.is_kind) row.asked in
     let fine = begun_change s q node by change row.operation row.rest co asked row.fits in
     let counts = begun_count s q node change row.operation row.rest co row.is_page row.rests fine row.fits in
     let s2 = with_operation q row.operation s1 in
     let noted : operation_of s2 q ≡ row.operation = get_or-set_same s.operations q row.operation None (rw co.as_many row.is_page) in
-    let co2 : Coherent (with_page s2 q (begun change g)) = coherent_with_page s2 q (begun change g) row.is_page (coherent_with_operation s1 q row.operation co1 row.rests)
+    let co2 : Consistent (with_page s2 q (begun change g)) = coherent_with_page s2 q (begun change g) row.is_page (coherent_with_operation s1 q row.operation co1 row.rests)
     (record { whole = rule.whole; equal = rule.equal; single = rule.single; moves = (refl, subst (λ (o : Option Operation). ChangeRule (sources s) o g.shared change) (sym noted) fine); sized = rule.sized })
     (λ p h has at old. record { backed = old.backed; is_mapped = old.is_mapped; alone = old.alone })
     (λ p h has at old. (refl, refl))
     (λ v e has at none. absurd (true≢false (sym (kept v e has).1 ∙ ap not (eq-eqb e.page q at))))
     counts.0 in
-    subst Coherent (sym row.after) (coherent_with_spares (with_page s2 q (begun change g)) row.rest co2 counts.1)
+    subst Consistent (sym row.after) (coherent_with_spares (with_page s2 q (begun change g)) row.rest co2 counts.1)
 
 pub begins_content : (s t : GuestState) (q : ℕ) (kind : MoveKind) (node : ℕ) (by : By) → Begins s q kind node by t → content t ≡ content s
 begins_content s t q kind node by row = ap content row.after ∙ content-page s q (begun row.change (page s q)) refl

@@ -9,7 +9,7 @@ use Rattle.private_machine.specs.HardwareStep.{Done}
 use Rattle.private_machine.specs.DirectAccess.{link_of, line_at, load_told, store_told, data_told, data_reached}
 use Rattle.private_machine.specs.Links.{is_linked}
 use Rattle.isolation_law.specs.GuestState.{GuestState, vcpu_of}
-use Rattle.isolation_law.specs.Coherence.{Coherent}
+use Rattle.isolation_law.specs.Coherence.{Consistent}
 use Rattle.isolation_law.specs.DirectStep.{with_inputs, sight, held_of}
 use Rattle.isolation_law.specs.Traps.{step_on}
 use Rattle.isolation_law.specs.DataWithin.{IsWithinPages}
@@ -36,7 +36,7 @@ told-within v pages x at held r below got = by r got
     by (asks.WriteCp0 number value) got = tt
     by (asks.System op) got = tt
 
-pub data-within : (s : GuestState) (p v : ℕ) (d : Done) → Coherent s → step_on s p v ≡ Ok d → IsWithinPages (length s.pages) (data_told v (data_reached d) d.does.request (held_of (with_inputs s v)))
+pub data-within : (s : GuestState) (p v : ℕ) (d : Done) → Consistent s → step_on s p v ≡ Ok d → IsWithinPages (length s.pages) (data_told v (data_reached d) d.does.request (held_of (with_inputs s v)))
 data-within s p v d co e =
     let u = with_inputs s v in
     let ran = ran-ok (sight u p v) u.pages (vcpu_of u v).registers d e in

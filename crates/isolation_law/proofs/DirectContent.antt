@@ -18,18 +18,23 @@ use Rattle.base_words.specs.Membership.{Has}
 use Rattle.private_machine.specs.Access.{loaded, stored, linked_load, conditional_store, if_linked}
 use Rattle.private_machine.specs.Backing.{Copy, Page, copies, with_bytes, stored_through, no_page}
 use Rattle.private_machine.specs.DirectAccess.{data_reached, line_at}
-use Rattle.private_machine.specs.Reaching.{Wanted, Sight, wanted, fetch_at, reached, Lack, Reached, at_half}
-use Rattle.private_machine.specs.HardwareStep.{Line, Privileged, with_data, word_through, accesses, executes, fetches, hardware_step, Done, decodes}
+use Rattle.private_machine.specs.declared.register_page.RegBlock.{RegBlock}
+use Rattle.private_machine.specs.RegisterPage.{redirected, block_of, is_loaded, read_from}
+use Rattle.base_words.specs.declared.coprocessor.Cp0Registers.{Cp0Registers}
+use Rattle.base_words.specs.Coprocessor.{register_at, reads}
+use Rattle.isolation_law.proofs.PageProofs.{OfPage, word-read}
+use Rattle.private_machine.specs.Reaching.{Wanted, Sight, wanted, fetch_at, reached, Lack, Reached, at_half, is_open_to}
+use Rattle.private_machine.specs.HardwareStep.{Line, Privileged, with_data, word_through, asks_of, accesses, executes, fetches, hardware_step, Done, decodes}
 use Rattle.private_machine.specs.Links.{word_offset, written, is_linked}
 use Rattle.private_machine.specs.OwnStep.{joined, input_joined, led, answered, attempted, acted, made, own_step, word_of, fetched, is_privileged, decided}
-use Rattle.private_machine.specs.PrivateMachine.{PrivateMachine, vcpu, left, on_vcpu}
+use Rattle.private_machine.specs.PrivateMachine.{PrivateMachine, vcpu, left, on_vcpu, is_open}
 use Rattle.private_machine.specs.Vcpu.{no_vcpu, with_line_on, with_link, ticking}
 use Rattle.private_machine.specs.declared.vcpu.Vcpu.{Vcpu}
 use Rattle.isolation_law.proofs.Stepping.{stored as stored_on, stored_if, accessed, ticked, told, steps-after}
-use Rattle.isolation_law.specs.Coherence.{HalfInTlb, tlb_of, Coherent}
+use Rattle.isolation_law.specs.Coherence.{HalfInTlb, tlb_of, Consistent}
 use Rattle.isolation_law.specs.Content.{content}
 use Rattle.isolation_law.specs.DirectStep.{with_inputs, sight, data_noted}
-use Rattle.isolation_law.specs.GuestState.{GuestState, page, processor, vcpu_of}
+use Rattle.isolation_law.specs.GuestState.{GuestState, page, processor, vcpu_of, block_at}
 use Rattle.isolation_law.specs.StepRows.{Steps}
 use Rattle.base_words.specs.declared.effect.Request.{Request}
 use Rattle.base_words.specs.declared.effect.Request.TheVariants as asks
@@ -67,23 +72,12 @@ noted-content p (at_data.Load page frame) s = refl
 noted-content p (at_data.Store page frame) s = refl
 
 -- through a half of a processor's TLB an access leads where it does for the guest
-pub led-through : (s : GuestState) (p v : ℕ) (w : Wanted) (h : Half) → Coherent s → (processor s p).loaded ≡ Some v → ByHalf (sight (with_inputs s v) p v) w h
+pub led-through : (s : GuestState) (p v : ℕ) (w : Wanted) (h : Half) → Consistent s → (processor s p).loaded ≡ Some v → ByHalf (sight (with_inputs s v) p v) w h
     → led (content (with_inputs s v)) v w.unit w.purpose w.address ≡ Ok (Memory (h.page * 4096 + w.address % 4096))
 led-through s p v w h co runs r =
     let t = with_inputs s v in
     reached-place (sight t p v) (length s.pages) (vcpu_of t v).tlb w h r
     (subst (λ (l : List Entry). HalfInTlb (length s.pages) l h) (tlb-inputs s v) (co.in_tlb p v h r.has runs))
-
--- a request of memory, or none
-abbrev pub OfMemory : Request → Type 0
-OfMemory asks.Nothing = Unit {0}
-OfMemory (asks.Load kind address target) = Unit {0}
-OfMemory (asks.Store kind address value) = Unit {0}
-OfMemory (asks.LoadLinked address target) = Unit {0}
-OfMemory (asks.StoreConditional address value target) = Unit {0}
-OfMemory (asks.ReadCp0 number target) = ⊥
-OfMemory (asks.WriteCp0 number value) = ⊥
-OfMemory (asks.System op) = ⊥
 
 -- the half of the data access, where there is one
 abbrev pub DataReached : Sight → Option Wanted → Reached → Type 0
@@ -91,7 +85,7 @@ DataReached x None at = Unit {0}
 DataReached x (Some w) at = (h : Half) × (at ≡ at_half h) × ByHalf x w h
 
 -- a store through a writable half is one into the guest's memory
-stored-content : (s : GuestState) (p v : ℕ) (h : Half) (a word : ℕ) → Coherent s → Has (processor s p).tlb h → h.writable ≡ true
+stored-content : (s : GuestState) (p v : ℕ) (h : Half) (a word : ℕ) → Consistent s → Has (processor s p).tlb h → h.writable ≡ true
     → content (stored_on (with_inputs s v) v (at_half h) a word) ≡ written (content (with_inputs s v)) v (h.page * 4096 + a % 4096) word
 stored-content s p v h a word co has writable =
     let t = with_inputs s v in
@@ -118,23 +112,23 @@ by-wanted : (s : GuestState) (p v : ℕ) (h : Half) (w k : Wanted) → Some k �
 by-wanted s p v h w k e got = let same : k ≡ w = cc in subst (λ (z : Wanted). ByHalf (sight (with_inputs s v) p v) z h) (sym same) got
 
 -- the access is the guest's own
-by-half-content : (s : GuestState) (p v : ℕ) (h : Half) (regs : Regs) (r : Request) (w : Wanted) → Coherent s → (processor s p).loaded ≡ Some v → OfMemory r → wanted r ≡ Some w → ByHalf (sight (with_inputs s v) p v) w h
+by-half-content : (s : GuestState) (p v : ℕ) (h : Half) (regs : Regs) (r : Request) (w : Wanted) → Consistent s → (processor s p).loaded ≡ Some v → wanted r ≡ Some w → ByHalf (sight (with_inputs s v) p v) w h
     → answered (content (with_inputs s v)) v regs r ≡ Ok (content (accessed (with_inputs s v) v (at_half h) regs r))
-by-half-content s p v h regs asks.Nothing w co runs is_memory given got = cc
-by-half-content s p v h regs (asks.Load kind address target) w co runs is_memory given got0 =
+by-half-content s p v h regs asks.Nothing w co runs given got = cc
+by-half-content s p v h regs (asks.Load kind address target) w co runs given got0 =
     let got = by-wanted s p v h w _ given got0 in
     let m = content (with_inputs s v) in
     let low : (h.page * 4096 + address % 4096) % 4 ≡ address % 4 = omega arith in
     ap (loaded m v regs kind target) (led-through s p v (record { purpose = Load; unit = load_unit kind; address = address }) h co runs got)
     ∙ (λ i. Ok (left m v (with_register regs target (loaded_value kind (word-through s p h address co got.has i) (register regs target) (low i)))))
-by-half-content s p v h regs (asks.Store kind address value) w co runs is_memory given got0 =
+by-half-content s p v h regs (asks.Store kind address value) w co runs given got0 =
     let got = by-wanted s p v h w _ given got0 in
     let m = content (with_inputs s v) in
     let low : (h.page * 4096 + address % 4096) % 4 ≡ address % 4 = omega arith in
     ap (stored m v regs kind value) (led-through s p v (record { purpose = Store; unit = store_unit kind; address = address }) h co runs got)
     ∙ (λ i. Ok (left (written m v (h.page * 4096 + address % 4096) (stored_word kind (word-through s p h address co got.has i) value (low i))) v regs))
     ∙ (λ i. Ok (left (sym (stored-content s p v h address (stored_word kind (word_through s.pages (at_half h) address) value (address % 4)) co got.has (got.permits refl)) i) v regs))
-by-half-content s p v h regs (asks.LoadLinked address target) w co runs is_memory given got0 =
+by-half-content s p v h regs (asks.LoadLinked address target) w co runs given got0 =
     let got = by-wanted s p v h w _ given got0 in
     let m = content (with_inputs s v) in
     let whole : address % 4 ≡ 0 = eqb-true (address % 4) 0 got.aligned in
@@ -142,7 +136,7 @@ by-half-content s p v h regs (asks.LoadLinked address target) w co runs is_memor
     let word : word_at m.memory (h.page * 4096 + address % 4096) ≡ word_through s.pages (at_half h) address = ap (λ (n : ℕ). word_at m.memory n) at ∙ word-through s p h address co got.has in
     ap (linked_load m v regs target) (led-through s p v (record { purpose = Load; unit = 4; address = address }) h co runs got)
     ∙ (λ i. Ok (on_vcpu (left m v (with_register regs target (word i))) v (with_link (Some (line_at (at_half h) address)))))
-by-half-content s p v h regs (asks.StoreConditional address value target) w co runs is_memory given got0 =
+by-half-content s p v h regs (asks.StoreConditional address value target) w co runs given got0 =
     let got = by-wanted s p v h w _ given got0 in
     let m = content (with_inputs s v) in
     let t = with_inputs s v in
@@ -152,26 +146,35 @@ by-half-content s p v h regs (asks.StoreConditional address value target) w co r
       | true ↦ λ i. Ok (on_vcpu (left (sym same i) v (with_register regs target 1)) v (with_link None))
       | false ↦ refl
     ]
-by-half-content s p v h regs (asks.ReadCp0 number target) w co runs is_memory given got = absurd is_memory
-by-half-content s p v h regs (asks.WriteCp0 number value) w co runs is_memory given got = absurd is_memory
-by-half-content s p v h regs (asks.System op) w co runs is_memory given got = absurd is_memory
+by-half-content s p v h regs (asks.ReadCp0 number target) w co runs given got = cc
+by-half-content s p v h regs (asks.WriteCp0 number value) w co runs given got = cc
+by-half-content s p v h regs (asks.System op) w co runs given got = cc
 
-accessed-content : (s : GuestState) (p v : ℕ) (at : Reached) (regs : Regs) (r : Request) → Coherent s → (processor s p).loaded ≡ Some v → OfMemory r → DataReached (sight (with_inputs s v) p v) (wanted r) at
+-- the register page of what runs, where it is open, is its registers'
+abbrev pub Shows : GuestState → ℕ → ℕ → Type 0
+Shows s p v = is_open_to (sight (with_inputs s v) p v) ≡ true → block_at s v ≡ Some (block_of (vcpu_of (with_inputs s v) v).cp0)
+
+read-shown : (o : Option RegBlock) (c : Cp0Registers) (regs : Regs) (number target : ℕ) → o ≡ Some (block_of c) → is_loaded number ≡ true → with_register regs target (reads c (register_at number)) ≡ read_from o regs number target
+read-shown o c regs number target shown is = ap (with_register regs target) (sym (word-read c number is)) ∙ ap (λ (b : Option RegBlock). read_from b regs number target) (sym shown)
+
+accessed-content : (s : GuestState) (p v : ℕ) (at : Reached) (regs : Regs) (r : Request) → Consistent s → (processor s p).loaded ≡ Some v → Shows s p v → OfPage (is_open_to (sight (with_inputs s v) p v)) r → DataReached (sight (with_inputs s v) p v) (wanted r) at
     → answered (content (with_inputs s v)) v regs r ≡ Ok (content (accessed (with_inputs s v) v at regs r))
-accessed-content s p v at regs r co runs is_memory got = by r is_memory got
+accessed-content s p v at regs r co runs shows is_page got = by r is_page got
   where
-    reaches : (r : Request) (w : Wanted) → OfMemory r → wanted r ≡ Some w → (h : Half) × (at ≡ at_half h) × ByHalf (sight (with_inputs s v) p v) w h → answered (content (with_inputs s v)) v regs r ≡ Ok (content (accessed (with_inputs s v) v at regs r))
-    reaches r w is_memory given got = subst (λ (z : Reached). answered (content (with_inputs s v)) v regs r ≡ Ok (content (accessed (with_inputs s v) v z regs r))) (sym got.1) (by-half-content s p v got.0 regs r w co runs is_memory given got.2)
+    reaches : (r : Request) (w : Wanted) → wanted r ≡ Some w → (h : Half) × (at ≡ at_half h) × ByHalf (sight (with_inputs s v) p v) w h → answered (content (with_inputs s v)) v regs r ≡ Ok (content (accessed (with_inputs s v) v at regs r))
+    reaches r w given got = subst (λ (z : Reached). answered (content (with_inputs s v)) v regs r ≡ Ok (content (accessed (with_inputs s v) v z regs r))) (sym got.1) (by-half-content s p v got.0 regs r w co runs given got.2)
 
-    by : (r : Request) → OfMemory r → DataReached (sight (with_inputs s v) p v) (wanted r) at → answered (content (with_inputs s v)) v regs r ≡ Ok (content (accessed (with_inputs s v) v at regs r))
-    by asks.Nothing is_memory got = refl
-    by (asks.Load kind address target) is_memory got = reaches (asks.Load kind address target) _ tt refl got
-    by (asks.Store kind address value) is_memory got = reaches (asks.Store kind address value) _ tt refl got
-    by (asks.LoadLinked address target) is_memory got = reaches (asks.LoadLinked address target) _ tt refl got
-    by (asks.StoreConditional address value target) is_memory got = reaches (asks.StoreConditional address value target) _ tt refl got
-    by (asks.ReadCp0 number target) is_memory got = absurd is_memory
-    by (asks.WriteCp0 number value) is_memory got = absurd is_memory
-    by (asks.System op) is_memory got = absurd is_memory
+    by : (r : Request) → OfPage (is_open_to (sight (with_inputs s v) p v)) r → DataReached (sight (with_inputs s v) p v) (wanted r) at → answered (content (with_inputs s v)) v regs r ≡ Ok (content (accessed (with_inputs s v) v at regs r))
+    by asks.Nothing is_page got = refl
+    by (asks.Load kind address target) is_page got = reaches (asks.Load kind address target) _ refl got
+    by (asks.Store kind address value) is_page got = reaches (asks.Store kind address value) _ refl got
+    by (asks.LoadLinked address target) is_page got = reaches (asks.LoadLinked address target) _ refl got
+    by (asks.StoreConditional address value target) is_page got = reaches (asks.StoreConditional address value target) _ refl got
+    by (asks.ReadCp0 number target) is_page got =
+        let c = (vcpu_of (with_inputs s v) v).cp0 in
+        λ i. Ok (left (content (with_inputs s v)) v (read-shown (block_at s v) c regs number target (shows is_page.0) is_page.1 i))
+    by (asks.WriteCp0 number value) is_page got = refl
+    by (asks.System op) is_page got = absurd is_page
 
 -- what is known where the hardware doesn't trap
 pub record Ran (x : Sight) (pages : List Page) (regs : Regs) (d : Done) : Type 0 where
@@ -179,7 +182,9 @@ pub record Ran (x : Sight) (pages : List Page) (regs : Regs) (d : Done) : Type 0
   pub fetched_by : Half
   pub by_half : ByHalf x (fetch_at regs.pc) fetched_by
   pub not_privileged : is_privileged (word_through pages (at_half fetched_by) regs.pc) ≡ false
-  pub does_it : effect (decoded (word_through pages (at_half fetched_by) regs.pc)) regs ≡ Ok d.does
+  pub raw : Effect
+  pub does_it : effect (decoded (word_through pages (at_half fetched_by) regs.pc)) regs ≡ Ok raw
+  pub asks_it : d.does ≡ asks_of x raw
   pub by_data : DataReached x (wanted d.does.request) (data_reached d)
 
 data-ok : (x : Sight) (word : ℕ) (fetched : Reached) (does : Effect) (w : Option Wanted) (d : Done) → accesses x word fetched does w ≡ Ok d → (does ≡ d.does) × DataReached x w (data_reached d)
@@ -194,11 +199,11 @@ data-ok x word fetched does (Some w) d e = at (reached x w) refl e
         let same : record { fetched = fetched; does = does; data_at = Some h } ≡ d = cc in
         (ap (λ (z : Done). z.does) same, subst (λ (z : Done). DataReached x (Some w) (data_reached z)) same (reached-ok x w h is))
 
-executes-ok : (x : Sight) (word : ℕ) (fetched : Reached) (r : Result Effect Exception) (d : Done) → executes x word fetched r ≡ Ok d → (r ≡ Ok d.does) × DataReached x (wanted d.does.request) (data_reached d)
+executes-ok : (x : Sight) (word : ℕ) (fetched : Reached) (r : Result Effect Exception) (d : Done) → executes x word fetched r ≡ Ok d → (raw : Effect) × (r ≡ Ok raw) × (d.does ≡ asks_of x raw) × DataReached x (wanted d.does.request) (data_reached d)
 executes-ok x word fetched (Err exception) d e = cc
 executes-ok x word fetched (Ok does) d e =
-    let r = data-ok x word fetched does (wanted does.request) d e in
-    (ap (λ (z : Effect). Ok z) r.0, subst (λ (z : Effect). DataReached x (wanted z.request) (data_reached d)) r.0 r.1)
+    let r = data-ok x word fetched (asks_of x does) (wanted (asks_of x does).request) d e in
+    (does, refl, sym r.0, subst (λ (z : Effect). DataReached x (wanted z.request) (data_reached d)) r.0 r.1)
 
 pub ran-ok : (x : Sight) (pages : List Page) (regs : Regs) (d : Done) → hardware_step x pages regs ≡ Ok d → Ran x pages regs d
 ran-ok x pages regs d e = line x.line refl e
@@ -208,7 +213,7 @@ ran-ok x pages regs d e = line x.line refl e
     privileged h r off true is e = cc
     privileged h r off false is e =
         let done = executes-ok x (word_through pages (at_half h) regs.pc) (at_half h) (effect (decoded (word_through pages (at_half h) regs.pc)) regs) d e in
-        record { no_line = off; fetched_by = h; by_half = r; not_privileged = is; does_it = done.0; by_data = done.1 }
+        record { no_line = off; fetched_by = h; by_half = r; not_privileged = is; raw = done.0; does_it = done.1; asks_it = done.2; by_data = done.3 }
 
     fetch : (r : Result Reached Lack) → reached x (fetch_at regs.pc) ≡ r → x.line ≡ false → fetches x pages regs r ≡ Ok d → Ran x pages regs d
     fetch (Err lack) is off e = cc
@@ -220,9 +225,10 @@ ran-ok x pages regs d e = line x.line refl e
     line true is e = cc
     line false is e = fetch (reached x (fetch_at regs.pc)) refl is e
 
--- the step is the guest's own, where its request is of memory (which any word but one of coprocessor 0 asks)
-pub steps_content : (s t : GuestState) (p v : ℕ) → Coherent s → (row : Steps s p v t) → OfMemory row.done.does.request → content t ≡ own_step (content s) v
-steps_content s t p v co row is_memory =
+-- the step is the guest's own, where its request is of memory (which any word but one of coprocessor 0 asks) or of the register page, which
+-- is open to the processor exactly where it is to the guest
+pub steps_content : (s t : GuestState) (p v : ℕ) → Consistent s → (row : Steps s p v t) → Shows s p v → is_open (content (with_inputs s v)) v ≡ is_open_to (sight (with_inputs s v) p v) → OfPage (is_open_to (sight (with_inputs s v) p v)) row.done.does.request → content t ≡ own_step (content s) v
+steps_content s t p v co row shows opens is_page =
     let u = with_inputs s v in
     let m = content u in
     let d = row.done in
@@ -237,9 +243,12 @@ steps_content s t p v co row is_memory =
     ∙ (λ i. Ok (word_at m.memory (at i)))
     ∙ (λ i. Ok (word-through s p h pc co ran.by_half.has i)) in
     let done = accessed u v (data_reached d) d.does.registers d.does.request in
+    let asked : answered m v ran.raw.registers (redirected (is_open m v) ran.raw.request) ≡ answered m v d.does.registers d.does.request =
+    ap (λ (b : Bool). answered m v ran.raw.registers (redirected b ran.raw.request)) opens ∙ ap (λ (z : Effect). answered m v z.registers z.request) (sym ran.asks_it) in
     let tried : attempted m v ≡ Ok (content done) =
     ap (decided m v) word
-    ∙ rw (ran.not_privileged, ran.does_it) (accessed-content s p v (data_reached d) d.does.registers d.does.request co row.runs.loaded is_memory ran.by_data) in
+    ∙ rw (ran.not_privileged, ran.does_it) asked
+    ∙ accessed-content s p v (data_reached d) d.does.registers d.does.request co row.runs.loaded shows is_page ran.by_data in
     let ended : acted m v ≡ content done = rw (ran.no_line, tried) refl in
     ap content (steps-after s t p v row)
     ∙ noted-content p (told s v d) (ticked done v)

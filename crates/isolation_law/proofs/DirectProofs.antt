@@ -18,7 +18,7 @@ use Rattle.private_machine.specs.Backing.{Copy, Page, copies, bytes_in, bytes_th
 use Rattle.private_machine.specs.Reaching.{Lack, Reached, at_half, DeadFrame, NoStore, Wanted, NoRange, Sight, through_half, in_segment, reached}
 use Rattle.private_machine.specs.HardwareStep.{word_through}
 use Rattle.private_machine.specs.Links.{word_offset}
-use Rattle.isolation_law.specs.Coherence.{HalfInTlb, HalfOnPage, Coherent}
+use Rattle.isolation_law.specs.Coherence.{HalfInTlb, HalfOnPage, Consistent}
 use Rattle.isolation_law.specs.Given.{page_of, given, IsIn}
 use Rattle.isolation_law.specs.Content.{content}
 use Rattle.isolation_law.specs.GuestState.{GuestState, page, processor}
@@ -129,7 +129,7 @@ bytes_through-master g p h equal on =
     bytes_in-equal (copies g) h.frame g.master.bytes (λ c has. ⊎_elim (λ (same : g.master ≡ c). ap (λ (z : Copy). z.bytes) (sym same)) (equal c) has) on.backed.0 on.backed.1 on.backed.2
 
 -- the pages are all whole
-pub even : (s : GuestState) → Coherent s → Even 4096 (λ (g : Page). g.master.bytes) s.pages
+pub even : (s : GuestState) → Consistent s → Even 4096 (λ (g : Page). g.master.bytes) s.pages
 even s co = all s.pages (λ q lt. (co.by_page q lt).whole)
   where
     all : (gs : List Page) → ((q : ℕ) → q < length gs → length (get_or gs q no_page).master.bytes ≡ 4096) → Even 4096 (λ (g : Page). g.master.bytes) gs
@@ -137,7 +137,7 @@ even s co = all s.pages (λ q lt. (co.by_page q lt).whole)
     all (g ∷ gs) h = (h 0 (omega arith), all gs (λ q lt. h (suc q) (omega arith)))
 
 -- the word around an address behind a half is the guest's
-pub word-through : (s : GuestState) (p : ℕ) (h : Half) (a : ℕ) → Coherent s → Has (processor s p).tlb h → word_at (content s).memory (word_offset (h.page * 4096 + a % 4096)) ≡ word_through s.pages (at_half h) a
+pub word-through : (s : GuestState) (p : ℕ) (h : Half) (a : ℕ) → Consistent s → Has (processor s p).tlb h → word_at (content s).memory (word_offset (h.page * 4096 + a % 4096)) ≡ word_through s.pages (at_half h) a
 word-through s p h a co has =
     let lt = co.within p h has in
     let rule = co.by_page h.page lt in

@@ -20,8 +20,7 @@ use Rattle.private_machine.specs.PageMove.{left_by}
 use Rattle.private_machine.specs.Policy.{Misses}
 use Rattle.private_machine.specs.Reaching.{Reached}
 use Rattle.isolation_law.specs.Causes.{seeks_frame}
-use Rattle.isolation_law.specs.Coherence.{Coherent}
-use Rattle.isolation_law.specs.Content.{content}
+use Rattle.isolation_law.specs.Coherence.{Consistent, Coherent}
 use Rattle.isolation_law.specs.DataWithin.{IsWithinPages}
 use Rattle.isolation_law.specs.DirectStep.{with_inputs, is_miss, misses_after, access_noted, data_noted}
 use Rattle.isolation_law.specs.Dues.{without_due, without_moving}
@@ -41,7 +40,8 @@ use Rattle.isolation_law.specs.StepRows.{act_done, Steps, Emulates, EndsRead}
 use Rattle.isolation_law.specs.Surroundings.{Surroundings, node_of_processor}
 use Rattle.isolation_law.proofs.AroundProofs.{row-around}
 use Rattle.isolation_law.proofs.DataWithinProofs.{data-within}
-use Rattle.isolation_law.proofs.LawProofs.{run_kept, start_kept}
+use Rattle.isolation_law.proofs.LawProofs.{run_coherent}
+use Rattle.isolation_law.proofs.MirrorProofs.{hand-mirrors}
 use Rattle.isolation_law.proofs.LoadedProofs.{row-loading}
 use Rattle.isolation_law.proofs.Parts.{at_place}
 use Rattle.isolation_law.proofs.SmallRows.{hand_keeps}
@@ -205,7 +205,7 @@ accessed-ready s pages p v h regs (asks.ReadCp0 number target) ready = ready
 accessed-ready s pages p v h regs (asks.WriteCp0 number value) ready = ready
 accessed-ready s pages p v h regs (asks.System op) ready = ready
 
-steps-fit : (s t : GuestState) (p v : ℕ) → Coherent s → DuesFit s → Steps s p v t → DuesFit t
+steps-fit : (s t : GuestState) (p v : ℕ) → Consistent s → DuesFit s → Steps s p v t → DuesFit t
 steps-fit s t p v co fit row =
     let d = row.done in
     let u = with_inputs s v in
@@ -217,7 +217,7 @@ steps-fit s t p v co fit row =
 
 -- ---- row by row
 
-pub row-fit : (s t : GuestState) (e : Event) → (s.end ≡ None → Coherent s) → DuesFit s → Row s e t → DuesFit t
+pub row-fit : (s t : GuestState) (e : Event) → (s.end ≡ None → Consistent s) → DuesFit s → Row s e t → DuesFit t
 row-fit s t (Load p v) co fit row = fewer-fit s t fit (subst (Fewer s) (sym row.after) (same-fewer s)) (λ r none. by r (r == p.0) (sym ((row-loading s t (Load p v) row).loaded r) ∙ none)) (row-around s t (Load p v) row)
   where
     some-none : Some v.0 ≡ None → ⊥
@@ -288,12 +288,12 @@ row-going s t (Ending end) row on = absurd (some-none (sym (ap (λ (x : GuestSta
     some-none e = cc
 
 row-coherent : (s t : GuestState) (e : Event) → (s.end ≡ None → Coherent s) → Row s e t → t.end ≡ None → Coherent t
-row-coherent s t e co row on = (run_kept s t (e ∷ []) (content s) (start_kept s (co (row-going s t e row on))) (s, t, inl refl, row, inl refl)).coherent on
+row-coherent s t e co row on = run_coherent s t (e ∷ []) (co (row-going s t e row on)) (s, t, inl refl, row, inl refl) on
 
 silent-coherent : (s t : GuestState) → (s.end ≡ None → Coherent s) → Silent s t → t.end ≡ None → Coherent t
 silent-coherent s t co silent on = ⊎_elim
     (λ (e : t ≡ s). subst Coherent (sym e) (co (sym (ap (λ (x : GuestState). x.end) e) ∙ on)))
-    (λ (x : ComesToHand s t). hand_keeps s t (co x.goes_on.not_ended) x)
+    (λ (x : ComesToHand s t). let c = co x.goes_on.not_ended in record { consistent = hand_keeps s t c.consistent x; mirrors = hand-mirrors s t c.mirrors x })
     silent
 
 silent-fit : (s t : GuestState) → DuesFit s → Silent s t → DuesFit t
@@ -303,4 +303,4 @@ pub run-fit : (s t : GuestState) (journal : List Event) → (s.end ≡ None → 
 run-fit s t [] co fit run = silent-fit s t fit run
 run-fit s t (e ∷ journal) co fit run =
     let here : run.0.end ≡ None → Coherent run.0 = silent-coherent s run.0 co run.2 in
-    run-fit run.1 t journal (row-coherent run.0 run.1 e here run.3) (row-fit run.0 run.1 e here (silent-fit s run.0 fit run.2) run.3) run.4
+    run-fit run.1 t journal (row-coherent run.0 run.1 e here run.3) (row-fit run.0 run.1 e (λ on. (here on).consistent) (silent-fit s run.0 fit run.2) run.3) run.4

@@ -8,8 +8,9 @@ use Rattle.private_machine.specs.Links.{page_filled, page_bytes}
 use Rattle.private_machine.specs.OwnStep.{joined, input_joined, own_step}
 use Rattle.private_machine.specs.Packet.{own_packet, came_into}
 use Rattle.private_machine.specs.PageMove.{taken}
+use Rattle.private_machine.specs.RegisterPage.{has_page}
 use Rattle.private_machine.specs.PrivateMachine.{PrivateMachine}
-use Rattle.isolation_law.specs.Coherence.{Coherent}
+use Rattle.isolation_law.specs.Coherence.{Consistent}
 use Rattle.private_machine.specs.DeviceAct.{Act, StoresTo, ReadsDisk, WritesDisk, SendsPage, WritesEntry, NoAct}
 use Rattle.isolation_law.specs.PageRules.{sources, ChangeRule}
 use Rattle.private_machine.specs.Disk.{block_now}
@@ -30,19 +31,19 @@ abbrev bytes_of : Page → List ℕ
 bytes_of g = g.master.bytes
 
 -- a content is a machine where pages, memory and disk are
-with_own-content : (n : PrivateMachine) (u : GuestState) → length u.pages ≡ n.pages → flat_map bytes_of u.pages ≡ n.memory → map block_now u.disk ≡ n.disk → content (with_own n u) ≡ n
-with_own-content n u pages memory disk = λ i. record n { pages = pages i; memory = memory i; disk = disk i }
+with_own-content : (n : PrivateMachine) (u : GuestState) → length u.pages ≡ n.pages → flat_map bytes_of u.pages ≡ n.memory → map block_now u.disk ≡ n.disk → has_page u.around.profile ≡ n.register_page → content (with_own n u) ≡ n
+with_own-content n u pages memory disk paged = λ i. record n { pages = pages i; memory = memory i; disk = disk i; register_page = paged i }
 
 -- what joins changes no page and no block
 joined-same : (m : PrivateMachine) (v : ℕ) → Same m (joined m v)
-joined-same m v = elim (v == 0) as (λ b. Same m (if b then input_joined m else m)) [ true ↦ record { pages = refl; memory = refl; disk = refl } | false ↦ record { pages = refl; memory = refl; disk = refl } ]
+joined-same m v = elim (v == 0) as (λ b. Same m (if b then input_joined m else m)) [ true ↦ record { pages = refl; memory = refl; disk = refl; paged = refl } | false ↦ record { pages = refl; memory = refl; disk = refl; paged = refl } ]
 
-filled-memory : (s : GuestState) (q : ℕ) (bytes : List ℕ) → Coherent s → q < length s.pages → length bytes ≤ 4096
+filled-memory : (s : GuestState) (q : ℕ) (bytes : List ℕ) → Consistent s → q < length s.pages → length bytes ≤ 4096
     → flat_map bytes_of (set s.pages q (with_first bytes (page s q))) ≡ take (q * 4096) (content s).memory ++ (bytes ++ drop (q * 4096 + length bytes) (content s).memory)
 filled-memory s q bytes co lt short = flat_filled bytes_of 4096 s.pages q bytes (with_first bytes (page s q)) no_page (even s co) lt short refl
 
 -- what the act of a step leaves of pages and disk
-act-content : (s : GuestState) (p v : ℕ) (act : Act) (n : PrivateMachine) → Coherent s → ((q : ℕ) → act ≢ StoresTo q) → Reads (length s.pages) (length s.disk) act → After (content s) act n → content (with_own n (act_done s p v act)) ≡ n
+act-content : (s : GuestState) (p v : ℕ) (act : Act) (n : PrivateMachine) → Consistent s → ((q : ℕ) → act ≢ StoresTo q) → Reads (length s.pages) (length s.disk) act → After (content s) act n → content (with_own n (act_done s p v act)) ≡ n
 act-content s p v (StoresTo q) n co no_store within after = absurd (no_store q refl)
 act-content s p v (ReadsDisk b q) n co no_store within after =
     let bytes = block_now (block s b) in
@@ -50,15 +51,15 @@ act-content s p v (ReadsDisk b q) n co no_store within after =
     let whole : length bytes ≡ 4096 = (co.blocks b within.0).whole in
     with_own-content n (act_done s p v (ReadsDisk b q)) (length-set s.pages q (with_first bytes (page s q)) ∙ sym after.pages)
     (filled-memory s q bytes co within.1 (omega arith) ∙ ap (λ (x : List ℕ). take (q * 4096) (content s).memory ++ (x ++ drop (q * 4096 + length x) (content s).memory)) (sym same) ∙ sym after.memory)
-    (sym after.disk)
+    (sym after.disk) (sym after.paged)
 act-content s p v (WritesDisk b q) n co no_store within after =
     let bytes = (page s q).master.bytes in
     let same : page_bytes (content s) q 4096 ≡ bytes = flat_page bytes_of 4096 s.pages q no_page (even s co) within.1 in
     with_own-content n (act_done s p v (WritesDisk b q)) (sym after.pages) (sym after.memory)
-    (map-set block_now s.disk b (record (block s b) { overlay = Some bytes }) ∙ ap (set (map block_now s.disk) b) (sym same) ∙ sym after.disk)
-act-content s p v (SendsPage q length to) n co no_store within after = with_own-content n (act_done s p v (SendsPage q length to)) (sym after.pages) (sym after.memory) (sym after.disk)
-act-content s p v (WritesEntry index) n co no_store within after = with_own-content n (act_done s p v (WritesEntry index)) (sym after.pages) (sym after.memory) (sym after.disk)
-act-content s p v NoAct n co no_store within after = with_own-content n (act_done s p v NoAct) (sym after.pages) (sym after.memory) (sym after.disk)
+    (map-set block_now s.disk b (record (block s b) { overlay = Some bytes }) ∙ ap (set (map block_now s.disk) b) (sym same) ∙ sym after.disk) (sym after.paged)
+act-content s p v (SendsPage q length to) n co no_store within after = with_own-content n (act_done s p v (SendsPage q length to)) (sym after.pages) (sym after.memory) (sym after.disk) (sym after.paged)
+act-content s p v (WritesEntry index) n co no_store within after = with_own-content n (act_done s p v (WritesEntry index)) (sym after.pages) (sym after.memory) (sym after.disk) (sym after.paged)
+act-content s p v NoAct n co no_store within after = with_own-content n (act_done s p v NoAct) (sym after.pages) (sym after.memory) (sym after.disk) (sym after.paged)
 
 -- the same from where the input has joined
 after-joined : (m j n : PrivateMachine) (act : Act) → Same m j → After j act n → After m act n
@@ -67,15 +68,17 @@ after-joined m j n (ReadsDisk b q) same after = record {
   pages = after.pages ∙ same.pages;
   memory = after.memory ∙ (λ i. (page_filled (record m { memory = same.memory i; disk = same.disk i }) q (get_or (same.disk i) b [])).memory);
   disk = after.disk ∙ same.disk;
+  paged = after.paged ∙ same.paged;
 }
 after-joined m j n (WritesDisk b q) same after = record {
   pages = after.pages ∙ same.pages;
   memory = after.memory ∙ same.memory;
   disk = after.disk ∙ (λ i. set (same.disk i) b (take 4096 (drop (q * 4096) (same.memory i))));
+  paged = after.paged ∙ same.paged;
 }
-after-joined m j n (SendsPage q length to) same after = record { pages = after.pages ∙ same.pages; memory = after.memory ∙ same.memory; disk = after.disk ∙ same.disk }
-after-joined m j n (WritesEntry index) same after = record { pages = after.pages ∙ same.pages; memory = after.memory ∙ same.memory; disk = after.disk ∙ same.disk }
-after-joined m j n NoAct same after = record { pages = after.pages ∙ same.pages; memory = after.memory ∙ same.memory; disk = after.disk ∙ same.disk }
+after-joined m j n (SendsPage q length to) same after = record { pages = after.pages ∙ same.pages; memory = after.memory ∙ same.memory; disk = after.disk ∙ same.disk; paged = after.paged ∙ same.paged }
+after-joined m j n (WritesEntry index) same after = record { pages = after.pages ∙ same.pages; memory = after.memory ∙ same.memory; disk = after.disk ∙ same.disk; paged = after.paged ∙ same.paged }
+after-joined m j n NoAct same after = record { pages = after.pages ∙ same.pages; memory = after.memory ∙ same.memory; disk = after.disk ∙ same.disk; paged = after.paged ∙ same.paged }
 
 hand-after : (s : GuestState) (v : ℕ) → (vcpu_of s v).halted ≡ false → After (content s) (at_hand s v) (own_step (content s) v)
 hand-after s v running = after-joined (content s) (joined (content s) v) (own_step (content s) v) (at_hand s v) (joined-same (content s) v) (step-after (content s) v running)
@@ -86,21 +89,21 @@ hand-in s v =
     let blocks : length (joined (content s) v).disk ≡ length s.disk = ap length j.disk ∙ length-map s.disk block_now in
     subst (λ (n : ℕ). Reads n (length s.disk) (at_hand s v)) j.pages (subst (λ (n : ℕ). Reads (joined (content s) v).pages n (at_hand s v)) blocks (next-in (joined (content s) v) v))
 
-pub emulates_content : (s t : GuestState) (p v : ℕ) → Coherent s → Emulates s p v t → ((q : ℕ) → at_hand s v ≢ StoresTo q) → content t ≡ own_step (content s) v
+pub emulates_content : (s t : GuestState) (p v : ℕ) → Consistent s → Emulates s p v t → ((q : ℕ) → at_hand s v ≢ StoresTo q) → content t ≡ own_step (content s) v
 emulates_content s t p v co row no_store =
     ap content row.after ∙ act-content s p v (at_hand s v) (own_step (content s) v) co no_store (hand-in s v) (hand-after s v row.traps.runs.running)
 
 -- a page that is taken shared has the bytes of the operation
-taken-content : (s : GuestState) (q : ℕ) (target : Copy) (n : PrivateMachine) → Coherent s → q < length s.pages → length target.bytes ≡ 4096 → Same (page_filled (content s) q target.bytes) n → content (with_own n (taken_shared q target s)) ≡ n
+taken-content : (s : GuestState) (q : ℕ) (target : Copy) (n : PrivateMachine) → Consistent s → q < length s.pages → length target.bytes ≡ 4096 → Same (page_filled (content s) q target.bytes) n → content (with_own n (taken_shared q target s)) ≡ n
 taken-content s q target n co lt whole after =
     let none : drop (length target.bytes) (page s q).master.bytes ≡ [] = drop_all (length target.bytes) (page s q).master.bytes (let full = (co.by_page q lt).whole in omega arith) in
     with_own-content n (taken_shared q target s) (length-set s.pages q (taken target (page s q)) ∙ sym after.pages)
     (flat_filled bytes_of 4096 s.pages q target.bytes (taken target (page s q)) no_page (even s co) lt (omega arith) (sym (ap (λ (b : List ℕ). target.bytes ++ b) none ∙ append-nil target.bytes))
     ∙ sym after.memory)
-    (sym after.disk)
+    (sym after.disk) (sym after.paged)
 
 -- a disk read ends the move that was for it
-pub ends_read_content : (s t : GuestState) (p v : ℕ) → Coherent s → EndsRead s p v t → content t ≡ own_step (content s) v
+pub ends_read_content : (s t : GuestState) (p v : ℕ) → Consistent s → EndsRead s p v t → content t ≡ own_step (content s) v
 ends_read_content s t p v co row =
     let n = own_step (content s) v in
     let m : Move = record { change = TakesShared row.target; waiting = row.waiting } in
@@ -116,9 +119,9 @@ ends_read_content s t p v co row =
 
 packet-after : (m : PrivateMachine) (from q : ℕ) (bytes : List ℕ) (armed : Option ℕ) → armed ≡ Some q → Same (page_filled m q bytes) (came_into m from bytes armed)
 packet-after m from q bytes None e = cc
-packet-after m from q bytes (Some r) e = let is : r ≡ q = cc in subst (λ (k : ℕ). Same (page_filled m k bytes) (came_into m from bytes (Some r))) is (record { pages = refl; memory = refl; disk = refl })
+packet-after m from q bytes (Some r) e = let is : r ≡ q = cc in subst (λ (k : ℕ). Same (page_filled m k bytes) (came_into m from bytes (Some r))) is (record { pages = refl; memory = refl; disk = refl; paged = refl })
 
-pub receives_content : (s t : GuestState) (k : ℕ) → Coherent s → (row : Receives s k t) → content t ≡ own_packet (content s) row.packet.from row.packet.bytes
+pub receives_content : (s t : GuestState) (k : ℕ) → Consistent s → (row : Receives s k t) → content t ≡ own_packet (content s) row.packet.from row.packet.bytes
 receives_content s t k co row =
     let q = row.q in
     let bytes = row.packet.bytes in
@@ -128,9 +131,9 @@ receives_content s t k co row =
     ap content row.after
     ∙ with_own-content n (with_page s q (with_first bytes (page s q))) (length-set s.pages q (with_first bytes (page s q)) ∙ sym after.pages)
     (filled-memory s q bytes co lt (co.packet row.packet row.delivered.in_hand) ∙ sym after.memory)
-    (sym after.disk)
+    (sym after.disk) (sym after.paged)
 
-pub ends_delivery_content : (s t : GuestState) (k : ℕ) → Coherent s → (row : EndsDelivery s k t) → content t ≡ own_packet (content s) row.packet.from row.packet.bytes
+pub ends_delivery_content : (s t : GuestState) (k : ℕ) → Consistent s → (row : EndsDelivery s k t) → content t ≡ own_packet (content s) row.packet.from row.packet.bytes
 ends_delivery_content s t k co row =
     let q = row.q in
     let bytes = row.packet.bytes in

@@ -9,7 +9,7 @@ use Rattle.private_machine.specs.PageMove.{taken}
 use Rattle.private_machine.specs.PrivateMachine.{PrivateMachine, vcpu}
 use Rattle.private_machine.specs.Vcpu.{no_vcpu, with_line_on, held_entry}
 use Rattle.private_machine.specs.declared.vcpu.Vcpu.{Vcpu}
-use Rattle.isolation_law.specs.Coherence.{Sound, tlb_of, Coherent}
+use Rattle.isolation_law.specs.Coherence.{Sound, tlb_of, Consistent}
 use Rattle.private_machine.specs.DeviceAct.{Act, StoresTo, ReadsDisk, WritesDisk, SendsPage, WritesEntry, NoAct}
 use Rattle.isolation_law.specs.PageRules.{BlockRule, sources}
 use Rattle.private_machine.specs.Disk.{block_now}
@@ -30,7 +30,7 @@ use Rattle.isolation_law.proofs.PacketProofs.{filled_keeps, taken_keeps}
 use Rattle.isolation_law.proofs.TlbEffects.{tlbs, Kept, Left, step-left}
 
 -- the guest's own parts change, but no TLB of them
-pub own_keeps : (s : GuestState) (m : PrivateMachine) → Coherent s → ((q : ℕ) → m.devices.armed ≡ Some q → q < length s.pages) → tlbs m ≡ map (λ c. c.tlb) s.vcpus → Coherent (with_own m s)
+pub own_keeps : (s : GuestState) (m : PrivateMachine) → Consistent s → ((q : ℕ) → m.devices.armed ≡ Some q → q < length s.pages) → tlbs m ≡ map (λ c. c.tlb) s.vcpus → Consistent (with_own m s)
 own_keeps s m co armed same =
     let made : Sound (sources s) s.operations s.pages s.spares s.processors (map (λ c. c.tlb) s.vcpus) s.seconds m.devices.armed =
     record { by_page = co.by_page; as_many = co.as_many; within = co.within; on_page = co.on_page; in_tlb = co.in_tlb; exact = co.exact; empty = co.empty; once = co.once; rests = co.rests; by_second = co.by_second; enough = co.enough; blocks = co.blocks; armed_page = armed; packet = co.packet } in
@@ -52,13 +52,13 @@ pub armed-joined : (m : PrivateMachine) (v : ℕ) → ((joined m v).devices.arme
 armed-joined m v = elim (v == 0) as (λ b. ((if b then input_joined m else m).devices.armed ≡ m.devices.armed) × ((if b then input_joined m else m).pages ≡ m.pages)) [ true ↦ (refl, refl) | false ↦ (refl, refl) ]
 
 -- a page that is armed after a step is there
-arms-within : (s : GuestState) (v : ℕ) (n : PrivateMachine) → Coherent s → ((q : ℕ) → n.devices.armed ≡ Some q → ((joined (content s) v).devices.armed ≡ Some q) ⊎ (q < (joined (content s) v).pages)) → (q : ℕ) → n.devices.armed ≡ Some q → q < length s.pages
+arms-within : (s : GuestState) (v : ℕ) (n : PrivateMachine) → Consistent s → ((q : ℕ) → n.devices.armed ≡ Some q → ((joined (content s) v).devices.armed ≡ Some q) ⊎ (q < (joined (content s) v).pages)) → (q : ℕ) → n.devices.armed ≡ Some q → q < length s.pages
 arms-within s v n co arms q e = ⊎_elim
     (λ (old : (joined (content s) v).devices.armed ≡ Some q). co.armed_page q (sym (armed-joined (content s) v).0 ∙ old))
     (λ (new : q < (joined (content s) v).pages). subst (λ (k : ℕ). q < k) (armed-joined (content s) v).1 new)
     (arms q e)
 
-kept-keeps : (s u : GuestState) (v : ℕ) (n : PrivateMachine) → Coherent s → Coherent u → length u.pages ≡ length s.pages → u.vcpus ≡ s.vcpus → Kept (joined (content s) v) n → Coherent (with_own n u)
+kept-keeps : (s u : GuestState) (v : ℕ) (n : PrivateMachine) → Consistent s → Consistent u → length u.pages ≡ length s.pages → u.vcpus ≡ s.vcpus → Kept (joined (content s) v) n → Consistent (with_own n u)
 kept-keeps s u v n co cu long same kept = own_keeps u n cu
     (λ q e. subst (λ (k : ℕ). q < k) (sym long) (arms-within s v n co kept.arms q e))
     (kept.tlbs_same ∙ tlbs-joined (content s) v ∙ ap (map (λ c. c.tlb)) (sym same))
@@ -74,7 +74,7 @@ given-same (x ∷ disk) zero bytes (suc k) = refl
 given-same (x ∷ disk) (suc b) bytes zero = refl
 given-same (x ∷ disk) (suc b) bytes (suc k) = given-same disk b bytes k
 
-disk-keeps : (s : GuestState) (b : ℕ) (bytes : List ℕ) → Coherent s → length bytes ≡ 4096 → Coherent (record s { disk = set s.disk b (record (block s b) { overlay = Some bytes }) })
+disk-keeps : (s : GuestState) (b : ℕ) (bytes : List ℕ) → Consistent s → length bytes ≡ 4096 → Consistent (record s { disk = set s.disk b (record (block s b) { overlay = Some bytes }) })
 disk-keeps s b bytes co whole =
     let new = set s.disk b (record (block s b) { overlay = Some bytes }) in
     coherent_with_sources s (record (sources s) { disk = new }) co still
@@ -86,8 +86,8 @@ disk-keeps s b bytes co whole =
     still (Delivers place packet) now e = e
 
 -- by the act
-act-keeps : (s : GuestState) (p v : ℕ) (shares : Bool) (act : Act) (n : PrivateMachine) → Coherent s → (processor s p).loaded ≡ Some v → ((q : ℕ) → act ≢ StoresTo q)
-    → Reads (length s.pages) (length s.disk) act → needed s v shares act ≡ None → Left (joined (content s) v) v act n → Coherent (with_own n (act_done s p v act))
+act-keeps : (s : GuestState) (p v : ℕ) (shares : Bool) (act : Act) (n : PrivateMachine) → Consistent s → (processor s p).loaded ≡ Some v → ((q : ℕ) → act ≢ StoresTo q)
+    → Reads (length s.pages) (length s.disk) act → needed s v shares act ≡ None → Left (joined (content s) v) v act n → Consistent (with_own n (act_done s p v act))
 act-keeps s p v shares (StoresTo q) n co runs no_store within none left = absurd (no_store q refl)
 act-keeps s p v shares (ReadsDisk b q) n co runs no_store within none left =
     let bytes = block_now (block s b) in
@@ -105,17 +105,17 @@ act-keeps s p v shares (WritesEntry index) n co runs no_store within none left =
     let same : tlbs n ≡ set l v (entry_written (tlb_of l v) index e) =
     left.tlbs_other ∙ (λ i. set (tlbs-joined (content s) v i) v (entry_written ((tlb-joined (content s) v ∙ sym mine) i) index (held-joined (content s) v i))) in
     let made = writes_keeps s n p v index e co runs (arms-within s v n co left.arms) same in
-    subst (λ (t : List Entry). Coherent (with_own n (pair_dropped p v (page_pair e.hi) (pair_dropped p v (page_pair (entry_read t index).hi) s)))) mine made
+    subst (λ (t : List Entry). Consistent (with_own n (pair_dropped p v (page_pair e.hi) (pair_dropped p v (page_pair (entry_read t index).hi) s)))) mine made
 act-keeps s p v shares NoAct n co runs no_store within none left = kept-keeps s s v n co co refl refl left
 
-pub emulates_keeps : (s t : GuestState) (p v : ℕ) → Coherent s → Emulates s p v t → ((q : ℕ) → at_hand s v ≢ StoresTo q) → Coherent t
+pub emulates_keeps : (s t : GuestState) (p v : ℕ) → Consistent s → Emulates s p v t → ((q : ℕ) → at_hand s v ≢ StoresTo q) → Consistent t
 emulates_keeps s t p v co row no_store =
-    subst Coherent (sym row.after)
+    subst Consistent (sym row.after)
     (act-keeps s p v row.shares (at_hand s v) (own_step (content s) v) co row.traps.runs.loaded no_store (hand-in s v) row.needs_nothing (step-left (content s) v row.traps.runs.running))
 
-pub ends_read_keeps : (s t : GuestState) (p v : ℕ) → Coherent s → EndsRead s p v t → Coherent t
+pub ends_read_keeps : (s t : GuestState) (p v : ℕ) → Consistent s → EndsRead s p v t → Consistent t
 ends_read_keeps s t p v co row =
     let n = own_step (content s) v in
     let cu = taken_keeps s row.q row.target row.waiting co row.open_move row.nobody_waits in
     let kept : Kept (joined (content s) v) n = subst (λ (a : Act). Left (joined (content s) v) v a n) row.reads (step-left (content s) v row.traps.runs.running) in
-    subst Coherent (sym row.after) (kept-keeps s (taken_shared row.q row.target s) v n co cu (length-set s.pages row.q (taken row.target (page s row.q))) refl kept)
+    subst Consistent (sym row.after) (kept-keeps s (taken_shared row.q row.target s) v n co cu (length-set s.pages row.q (taken row.target (page s row.q))) refl kept)

@@ -14,7 +14,7 @@ use Rattle.base_words.specs.Membership.{Has}
 use Rattle.private_machine.specs.PrivateMachine.{PrivateMachine}
 use Rattle.private_machine.specs.SecondLevel.{Second, seconds_without_pair}
 use Rattle.private_machine.specs.Vcpu.{no_vcpu}
-use Rattle.isolation_law.specs.Coherence.{HalfInTlb, IsDenied, SecondRule, tlb_of, Sound, Coherent}
+use Rattle.isolation_law.specs.Coherence.{HalfInTlb, IsDenied, SecondRule, tlb_of, Sound, Consistent}
 use Rattle.isolation_law.specs.PageRules.{sources}
 use Rattle.isolation_law.specs.Given.{page_of, given, IsIn}
 use Rattle.isolation_law.specs.Content.{with_own}
@@ -157,12 +157,12 @@ second_moved s v tlb e same old = record {
 }
 
 -- the guest's own parts change, and one TLB of them
-pub coherent_with_own : (s : GuestState) (m : PrivateMachine) (v : ℕ) (tlb : List Entry) → Coherent s
+pub coherent_with_own : (s : GuestState) (m : PrivateMachine) (v : ℕ) (tlb : List Entry) → Consistent s
     → ((q : ℕ) → m.devices.armed ≡ Some q → q < length s.pages)
     → map (λ c. c.tlb) m.vcpus ≡ set (map (λ c. c.tlb) s.vcpus) v tlb
     → ((p : ℕ) (h : Half) → Has (processor s p).tlb h → (processor s p).loaded ≡ Some v → GivenSame s v tlb h.number)
     → ((e : Second) → Has (second_level s v) (Some e) → GivenSame s v tlb e.number × EverywhereSame s v tlb e.number)
-    → Coherent (with_own m s)
+    → Consistent (with_own m s)
 coherent_with_own s m v tlb co armed same halves entries =
     let tlbs = map (λ c. c.tlb) s.vcpus in
     let made : Sound (sources s) s.operations s.pages s.spares s.processors (set tlbs v tlb) s.seconds m.devices.armed = record {
@@ -184,12 +184,12 @@ coherent_with_own s m v tlb co armed same halves entries =
     subst (λ (l : List (List Entry)). Sound (sources s) s.operations s.pages s.spares s.processors l s.seconds m.devices.armed) (sym same) made
 
 -- a processor's halves and a virtual processor's second-level entries of a pair are dropped
-pub dropped_keeps : (s : GuestState) (p v pair : ℕ) → Coherent s → Coherent (pair_dropped p v pair s)
+pub dropped_keeps : (s : GuestState) (p v pair : ℕ) → Consistent s → Consistent (pair_dropped p v pair s)
 dropped_keeps s p v pair co =
     let new : Processor = record (processor s p) { tlb = without_pair pair (processor s p).tlb } in
     let was : (h : Half) → Has new.tlb h → Has (processor s p).tlb h = λ h has. (Has-filter (λ (x : Half). not (x.number / 2 == pair)) (processor s p).tlb h has).0 in
     let s1 = with_processor s p new in
-    let co1 : Coherent s1 = coherent_with_processor s p new co
+    let co1 : Consistent s1 = coherent_with_processor s p new co
     (λ h has. (co.within p h (was h has), co.on_page p h (was h has)))
     (λ u h has is. co.in_tlb p u h (was h has) is)
     (λ u h has is off. co.exact p u h (was h has) is off)
@@ -217,10 +217,10 @@ self-in false asid = eq-eqb asid asid refl
 
 -- A write of an entry of the guest's TLB: halves and second-level entries of the old and the new pair are dropped, and then
 -- the guest's TLB is another (what an own step leaves of the guest's parts is given).
-pub writes_keeps : (s : GuestState) (m : PrivateMachine) (p v i : ℕ) (e : Entry) → Coherent s → (processor s p).loaded ≡ Some v
+pub writes_keeps : (s : GuestState) (m : PrivateMachine) (p v i : ℕ) (e : Entry) → Consistent s → (processor s p).loaded ≡ Some v
     → ((q : ℕ) → m.devices.armed ≡ Some q → q < length s.pages)
     → map (λ c. c.tlb) m.vcpus ≡ set (map (λ c. c.tlb) s.vcpus) v (entry_written (tlb_of (map (λ c. c.tlb) s.vcpus) v) i e)
-    → Coherent (with_own m (pair_dropped p v (page_pair e.hi) (pair_dropped p v (page_pair (entry_read (tlb_of (map (λ c. c.tlb) s.vcpus) v) i).hi) s)))
+    → Consistent (with_own m (pair_dropped p v (page_pair e.hi) (pair_dropped p v (page_pair (entry_read (tlb_of (map (λ c. c.tlb) s.vcpus) v) i).hi) s)))
 writes_keeps s m p v i e co runs armed same =
     let tlb = tlb_of (map (λ c. c.tlb) s.vcpus) v in
     let old = page_pair (entry_read tlb i).hi in

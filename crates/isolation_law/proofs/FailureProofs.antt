@@ -15,7 +15,7 @@ use Rattle.private_machine.specs.HardwareStep.{Done}
 use Rattle.isolation_law.specs.CellFailure.{failure_of, is_failure}
 use Rattle.isolation_law.specs.DirectStep.{with_inputs, held_of, with_held, ticked_with, data_noted, direct}
 use Rattle.isolation_law.specs.EndRows.{CellFailsIn, LetsGo}
-use Rattle.isolation_law.specs.GuestState.{GuestState, is_dead}
+use Rattle.isolation_law.specs.GuestState.{GuestState, is_dead, block_at}
 use Rattle.isolation_law.specs.MachineEvent.{Row}
 use Rattle.isolation_law.specs.MoveRows.{Finishes}
 use Rattle.isolation_law.specs.PacketRows.{ComesToHand, Receives, EndsDelivery}
@@ -93,9 +93,9 @@ noted-end p (at_data.Store page frame) s = refl
 direct-left : (e : Event) (s : GuestState) (p v : ℕ) (d : Done) → dead_after e s.dead ≡ s.dead → end_after e s.end ≡ s.end → Left e s (direct s p v d)
 direct-left e s p v d same on =
     let before = with_inputs s v in
-    let after = stepped_through v (held_of before) d in
+    let after = stepped_through v (block_at before v) (held_of before) d in
     let a = data_told v (data_reached d) d.does.request (held_of before) in
-    let done = ticked_with v after.registers (with_held after.held before) in
+    let done = ticked_with v after.registers d.does.request (with_held after.held before) in
     record { dead = noted-dead p a done ∙ sym same; skips = λ other. noted-skips p a done; end = noted-end p a done ∙ sym on }
 
 pub row-left : (s t : GuestState) (e : Event) → Row s e t → Left e s t

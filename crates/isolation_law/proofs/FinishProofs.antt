@@ -7,7 +7,7 @@ use Rattle.base_words.specs.Membership.{HasNone}
 use Rattle.base_words.specs.Membership.{Has}
 use Rattle.private_machine.specs.Backing.{Copy, Change, Migrates, Replicates, Collapses, Breaks, TakesShared, GivesShared, Move, Page, with_bytes, no_page}
 use Rattle.private_machine.specs.PageMove.{finished, spares_finished}
-use Rattle.isolation_law.specs.Coherence.{Coherent}
+use Rattle.isolation_law.specs.Coherence.{Consistent}
 use Rattle.isolation_law.specs.PageRules.{ChangeRule, MoveRule, PageRule, breaks, is_breaking, needs_spare, sources, Sources}
 use Rattle.isolation_law.specs.Content.{content}
 use Rattle.isolation_law.specs.GuestState.{GuestState, page, operation_of, with_page}
@@ -72,7 +72,7 @@ finished_count gs spares q m change lt is kind room =
     by_kind gs spares q (TakesShared t) room b c = let same = ap (λ x. cond {A = ℕ} ((get_or gs q no_page).shared && not x) 1 0) b in omega (arith, c, same)
     by_kind gs spares q (GivesShared t) room b c = rw length-append (omega (arith, c))
 
-pub finishes_keeps : (s t : GuestState) (q : ℕ) → Coherent s → Finishes s q t → Coherent t
+pub finishes_keeps : (s t : GuestState) (q : ℕ) → Consistent s → Finishes s q t → Consistent t
 finishes_keeps s t q co row =
     let g = page s q in
     let m = row.move in
@@ -82,14 +82,14 @@ finishes_keeps s t q co row =
     let s1 : GuestState = record s { spares = more } in
     let room : length s.spares ≤ length more = more_spares s.spares m.change in
     let before = co.enough in
-    let co1 : Coherent s1 = coherent_with_spares s more co (omega arith) in
+    let co1 : Consistent s1 = coherent_with_spares s more co (omega arith) in
     let unmapped = nobody_maps (sources s) (operation_of s q) g m rule.moves row.open_move row.nobody_waits in
-    let done : Coherent (with_page s1 q (finished m.change g)) = coherent_with_page s1 q (finished m.change g) there co1 (finished_rule (sources s) (length s.processors) (operation_of s q) g m.change rule (open_rule (sources s) (operation_of s q) g m rule.moves row.open_move).1)
+    let done : Consistent (with_page s1 q (finished m.change g)) = coherent_with_page s1 q (finished m.change g) there co1 (finished_rule (sources s) (length s.processors) (operation_of s q) g m.change rule (open_rule (sources s) (operation_of s q) g m rule.moves row.open_move).1)
     (λ p h has at old. absurd (true≢false (sym old.is_mapped ∙ unmapped p)))
     (λ p h has at old. absurd (true≢false (sym old.is_mapped ∙ unmapped p)))
     (λ v e has at none. finished_none g m.change)
     (finished_count s.pages s.spares q m m.change there row.open_move refl co.enough) in
-    subst Coherent (sym row.after) (coherent_with_operation (with_page s1 q (finished m.change g)) q None done (ap (λ (x : Page). x.move) (get_or-set_same s.pages q (finished m.change g) no_page there) ∙ finished_none g m.change))
+    subst Consistent (sym row.after) (coherent_with_operation (with_page s1 q (finished m.change g)) q None done (ap (λ (x : Page). x.move) (get_or-set_same s.pages q (finished m.change g) no_page there) ∙ finished_none g m.change))
 
 pub finishes_content : (s t : GuestState) (q : ℕ) → Finishes s q t → content t ≡ content s
 finishes_content s t q row = ap content row.after ∙ content-page s q (finished row.move.change (page s q)) (finished_bytes (page s q) row.move.change)

@@ -31,7 +31,8 @@ use Rattle.private_machine.specs.Devices.{disk_status, commanded, transferred, s
 use Rattle.private_machine.specs.Links.{unlinked, unlinked_page, unlinked_others, written, page_filled, page_bytes, word_around, is_linked, line_of}
 use Rattle.private_machine.specs.OwnStep.{led, answered, fetched, usable, executed, decided, attempted, settled, acted, own_step, input_joined, joined, made, is_usable}
 use Rattle.private_machine.specs.Packet.{came_into}
-use Rattle.private_machine.specs.PrivateMachine.{PrivateMachine, vcpu, with_devices, left, on_vcpu, input_waits}
+use Rattle.private_machine.specs.PrivateMachine.{PrivateMachine, vcpu, with_devices, left, on_vcpu, input_waits, is_open}
+use Rattle.private_machine.specs.RegisterPage.{redirected}
 use Rattle.private_machine.specs.Signals.{called, signalled}
 use Rattle.private_machine.specs.Vcpu.{no_vcpu, with_registers, with_cp0, with_link, with_line_on, system_done, raising, ticking, halting}
 use Rattle.private_machine.specs.declared.vcpu.Vcpu.{Vcpu}
@@ -173,7 +174,7 @@ request-keep m v regs (asks.System op) = keep-on m (left m v regs) v (system_don
 
 executed-keep : (m : PrivateMachine) (v : ℕ) (does : Result Effect Exception) → Keep m (settled m v (executed m v does))
 executed-keep m v (Err x) = raised-keep m v x
-executed-keep m v (Ok does) = request-keep m v does.registers does.request
+executed-keep m v (Ok does) = request-keep m v does.registers (redirected (is_open m v) does.request)
 
 decided-keep : (m : PrivateMachine) (v : ℕ) (word : Result ℕ Exception) → Keep m (settled m v (decided m v word))
 decided-keep m v (Err x) = raised-keep m v x

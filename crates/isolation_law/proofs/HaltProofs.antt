@@ -8,12 +8,13 @@ use Rattle.base_words.specs.declared.trap.DataAccess.{DataAccess}
 use Rattle.base_words.specs.declared.trap.DataAccess.TheVariants as at_data
 use Rattle.private_machine.specs.DirectAccess.{data_reached, data_told, stepped_through}
 use Rattle.private_machine.specs.HardwareStep.{Done}
-use Rattle.private_machine.specs.Vcpu.{with_registers, ticking}
+use Rattle.private_machine.specs.Vcpu.{with_registers, ticking, with_cp0}
+use Rattle.private_machine.specs.RegisterPage.{registers_after}
 use Rattle.private_machine.specs.declared.vcpu.Vcpu.{Vcpu}
 use Rattle.isolation_law.specs.Content.{content}
 use Rattle.isolation_law.specs.DirectStep.{with_inputs, held_of, relinked, with_held, ticked_with, data_noted, direct}
 use Rattle.isolation_law.specs.EndRows.{LetsGo}
-use Rattle.isolation_law.specs.GuestState.{GuestState, vcpu_of}
+use Rattle.isolation_law.specs.GuestState.{GuestState, vcpu_of, block_at}
 use Rattle.isolation_law.specs.MachineEvent.{Row}
 use Rattle.isolation_law.specs.MoveRows.{Finishes}
 use Rattle.isolation_law.specs.PacketRows.{ComesToHand, Receives, EndsDelivery}
@@ -37,11 +38,11 @@ noted-keep p (at_data.Store page frame) s = λ v e. e
 direct-keep : (s : GuestState) (p v : ℕ) (d : Done) → KeepHalts s.vcpus (direct s p v d).vcpus
 direct-keep s p v d u e =
     let before = with_inputs s v in
-    let after = stepped_through v (held_of before) d in
+    let after = stepped_through v (block_at before v) (held_of before) d in
     let held = with_held after.held before in
     let linked : (vcpu_of held u).halted ≡ true = relinked-keep after.held.links before.vcpus u (joined-keep (content s) v u e) in
-    let done = ticked_with v after.registers held in
-    let left : (vcpu_of done u).halted ≡ true = set-keep held.vcpus v (ticking (with_registers after.registers (vcpu_of held v))) (λ own. own) u linked in
+    let done = ticked_with v after.registers d.does.request held in
+    let left : (vcpu_of done u).halted ≡ true = set-keep held.vcpus v (ticking (with_cp0 (registers_after d.does.request (vcpu_of held v).cp0) (with_registers after.registers (vcpu_of held v)))) (λ own. own) u linked in
     noted-keep p (data_told v (data_reached d) d.does.request (held_of before)) done u left
 
 -- what a row leaves

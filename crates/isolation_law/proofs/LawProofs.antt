@@ -14,7 +14,9 @@ use Rattle.base_words.specs.declared.trap.DataAccess.TheVariants as at_data
 use Rattle.base_words.specs.declared.events.OwnEvent.{OwnEvent}
 use Rattle.base_words.specs.declared.events.OwnEvent.TheVariants as seen_as
 use Rattle.isolation_law.specs.OwnHistory.{arrives}
-use Rattle.isolation_law.specs.Coherence.{Coherent}
+use Rattle.isolation_law.specs.Coherence.{Consistent, Coherent}
+use Rattle.isolation_law.specs.Mirrors.{Mirrors}
+use Rattle.isolation_law.proofs.MirrorProofs.{row-mirrors, hand-mirrors}
 use Rattle.isolation_law.specs.Content.{content}
 use Rattle.isolation_law.specs.EndRows.{LetsGo}
 use Rattle.isolation_law.specs.GuestState.{GuestState}
@@ -149,12 +151,12 @@ run_packets s t (e ∷ j) run =
 
 -- coherent, with this content, until the guest ends; what it printed and sent for good
 pub record Kept (s : GuestState) (m : PrivateMachine) : Type 0 where
-  pub coherent : s.end ≡ None → Coherent s
+  pub coherent : s.end ≡ None → Consistent s
   pub same : s.end ≡ None → content s ≡ m
   pub console : s.devices.console ≡ m.devices.console
   pub sent : s.devices.sent ≡ m.devices.sent
 
-known : (t : GuestState) (m : PrivateMachine) → Coherent t → content t ≡ m → Kept t m
+known : (t : GuestState) (m : PrivateMachine) → Consistent t → content t ≡ m → Kept t m
 known t m co now = record {
   coherent = λ _. co;
   same = λ _. now;
@@ -163,15 +165,15 @@ known t m co now = record {
 }
 
 -- an entry that is none of the guest's own
-quiet : (s t : GuestState) (m : PrivateMachine) → Kept s m → s.end ≡ None → (Coherent s → Coherent t) → content t ≡ content s → Kept t m
+quiet : (s t : GuestState) (m : PrivateMachine) → Kept s m → s.end ≡ None → (Consistent s → Consistent t) → content t ≡ content s → Kept t m
 quiet s t m kept on keeps same = known t m (keeps (kept.coherent on)) (same ∙ kept.same on)
 
 -- an own event
-owned : (s t : GuestState) (m : PrivateMachine) (e : OwnEvent) → Kept s m → s.end ≡ None → (Coherent s → Coherent t) → (Coherent s → content t ≡ own_event (content s) e) → Kept t (own_event m e)
+owned : (s t : GuestState) (m : PrivateMachine) (e : OwnEvent) → Kept s m → s.end ≡ None → (Consistent s → Consistent t) → (Consistent s → content t ≡ own_event (content s) e) → Kept t (own_event m e)
 owned s t m e kept on keeps does = known t (own_event m e) (keeps (kept.coherent on)) (does (kept.coherent on) ∙ ap (λ (x : PrivateMachine). own_event x e) (kept.same on))
 
 -- an entry that may also come after the end
-late : (s t : GuestState) (m : PrivateMachine) → Kept s m → t.end ≡ s.end → t.devices ≡ s.devices → (Coherent s → Coherent t) → content t ≡ content s → Kept t m
+late : (s t : GuestState) (m : PrivateMachine) → Kept s m → t.end ≡ s.end → t.devices ≡ s.devices → (Consistent s → Consistent t) → content t ≡ content s → Kept t m
 late s t m kept ended devices keeps same = record {
   coherent = λ on. keeps (kept.coherent (sym ended ∙ on));
   same = λ on. same ∙ kept.same (sym ended ∙ on);
@@ -194,33 +196,33 @@ seen s t k packet packets next now ext =
     ∙ get_or_push s.received packet no_packet k (sym next)
 
 -- where the packets received in the end extend those received so far
-pub step : (s t : GuestState) (e : Event) (packets : List Packet) (m : PrivateMachine) → Extends t.received packets → Kept s m → Row s e t → Kept t (after packets m e)
-step s t (Load p v) packets m ext kept row = quiet s t m kept row.goes_on.not_ended (λ co. loads_keeps s t p.0 v.0 co row) (loads_content s t p.0 v.0 row)
-step s t (Unload p) packets m ext kept row = late s t m kept (ap (λ (x : GuestState). x.end) row.after) (ap (λ (x : GuestState). x.devices) row.after) (λ co. unloads_keeps s t p.0 co row) (unloads_content s t p.0 row)
-step s t (Direct p v) packets m ext kept row = owned s t m (seen_as.Step v) kept row.goes_on.not_ended (λ co. steps_keeps s t p.0 v.0 co row) (λ co. steps-content s t p.0 v.0 co row)
-step s t (Refill p) packets m ext kept row = quiet s t m kept row.goes_on.not_ended (λ co. refills_keeps s t p.0 co row) (refills_content s t p.0 row)
-step s t (Emulate p v) packets m ext kept row = ⊎_elim
+pub step : (s t : GuestState) (e : Event) (packets : List Packet) (m : PrivateMachine) → Extends t.received packets → Kept s m → Mirrors s → Row s e t → Kept t (after packets m e)
+step s t (Load p v) packets m ext kept mirrors row = quiet s t m kept row.goes_on.not_ended (λ co. loads_keeps s t p.0 v.0 co row) (loads_content s t p.0 v.0 row)
+step s t (Unload p) packets m ext kept mirrors row = late s t m kept (ap (λ (x : GuestState). x.end) row.after) (ap (λ (x : GuestState). x.devices) row.after) (λ co. unloads_keeps s t p.0 co row) (unloads_content s t p.0 row)
+step s t (Direct p v) packets m ext kept mirrors row = owned s t m (seen_as.Step v) kept row.goes_on.not_ended (λ co. steps_keeps s t p.0 v.0 co row) (λ co. steps-content s t p.0 v.0 co mirrors row)
+step s t (Refill p) packets m ext kept mirrors row = quiet s t m kept row.goes_on.not_ended (λ co. refills_keeps s t p.0 co row) (refills_content s t p.0 row)
+step s t (Emulate p v) packets m ext kept mirrors row = ⊎_elim
     (λ (x : Emulates s p.0 v.0 t). owned s t m (seen_as.Step v) kept x.traps.goes_on.not_ended
     (λ co. emulates_keeps s t p.0 v.0 co x (emulated-no-store s p.0 v.0 co x.traps))
     (λ co. emulates_content s t p.0 v.0 co x (emulated-no-store s p.0 v.0 co x.traps)))
     (λ (x : EndsRead s p.0 v.0 t). owned s t m (seen_as.Step v) kept x.traps.goes_on.not_ended (λ co. ends_read_keeps s t p.0 v.0 co x) (λ co. ends_read_content s t p.0 v.0 co x))
     row
-step s t (Begin q kind node by) packets m ext kept row = quiet s t m kept row.goes_on.not_ended (λ co. begins_keeps s t q.0 kind node.0 by co row) (begins_content s t q.0 kind node.0 by row)
-step s t (Ack p q) packets m ext kept row = quiet s t m kept row.goes_on.not_ended (λ co. acks_keeps s t p.0 q.0 co row) (acks_content s t p.0 q.0 row)
-step s t (Finish q) packets m ext kept row = ⊎_elim
+step s t (Begin q kind node by) packets m ext kept mirrors row = quiet s t m kept row.goes_on.not_ended (λ co. begins_keeps s t q.0 kind node.0 by co row) (begins_content s t q.0 kind node.0 by row)
+step s t (Ack p q) packets m ext kept mirrors row = quiet s t m kept row.goes_on.not_ended (λ co. acks_keeps s t p.0 q.0 co row) (acks_content s t p.0 q.0 row)
+step s t (Finish q) packets m ext kept mirrors row = ⊎_elim
     (λ (x : Finishes s q.0 t). quiet s t m kept x.goes_on.not_ended (λ co. finishes_keeps s t q.0 co x) (finishes_content s t q.0 x))
     (λ (x : LetsGo s q.0 t). quiet s t m kept x.not_ended (λ co. lets_go_keeps s t q.0 co x) (lets_go_content s t q.0 x))
     row
-step s t (PacketIn k) packets m ext kept row = ⊎_elim
+step s t (PacketIn k) packets m ext kept mirrors row = ⊎_elim
     (λ (x : Receives s k t). subst (λ (y : Packet). Kept t (own_event m (arrives y))) (sym (seen s t k x.packet packets x.delivered.next (ap (λ (y : GuestState). y.received) x.after) ext))
     (owned s t m (arrives x.packet) kept x.delivered.goes_on.not_ended (λ co. receives_keeps s t k co x) (λ co. receives_content s t k co x)))
     (λ (x : EndsDelivery s k t). subst (λ (y : Packet). Kept t (own_event m (arrives y))) (sym (seen s t k x.packet packets x.delivered.next (ap (λ (y : GuestState). y.received) x.after) ext))
     (owned s t m (arrives x.packet) kept x.delivered.goes_on.not_ended (λ co. ends_delivery_keeps s t k co x) (λ co. ends_delivery_content s t k co x)))
     row
-step s t (Discard k) packets m ext kept row = quiet s t m kept row.goes_on.not_ended (λ co. discards_keeps s t k co row) (discards_content s t k row)
-step s t (Skip k) packets m ext kept row = late s t m kept (ap (λ (x : GuestState). x.end) row.after) (ap (λ (x : GuestState). x.devices) row.after) (λ co. skips_keeps s t k co row) (skips_content s t k row)
-step s t (CellFails c) packets m ext kept row = late s t m kept (ap (λ (x : GuestState). x.end) row.after) (ap (λ (x : GuestState). x.devices) row.after) (λ co. fails_keeps s t c.0 co row) (fails_content s t c.0 row)
-step s t (Ending end) packets m ext kept row =
+step s t (Discard k) packets m ext kept mirrors row = quiet s t m kept row.goes_on.not_ended (λ co. discards_keeps s t k co row) (discards_content s t k row)
+step s t (Skip k) packets m ext kept mirrors row = late s t m kept (ap (λ (x : GuestState). x.end) row.after) (ap (λ (x : GuestState). x.devices) row.after) (λ co. skips_keeps s t k co row) (skips_content s t k row)
+step s t (CellFails c) packets m ext kept mirrors row = late s t m kept (ap (λ (x : GuestState). x.end) row.after) (ap (λ (x : GuestState). x.devices) row.after) (λ co. fails_keeps s t c.0 co row) (fails_content s t c.0 row)
+step s t (Ending end) packets m ext kept mirrors row =
     let over : t.end ≡ Some end = ap (λ (x : GuestState). x.end) row.after in
     record {
       coherent = λ on. absurd (some-none end (sym over ∙ on));
@@ -232,14 +234,32 @@ step s t (Ending end) packets m ext kept row =
     some-none : {A : Type 0} (x : A) → Some x ≡ None → ⊥
     some-none x e = cc
 
-run_with : (s t : GuestState) (j : List Event) (packets : List Packet) (m : PrivateMachine) → Extends t.received packets → Kept s m → Run s j t → Kept t (private_run m (own packets j))
-run_with s t [] packets m ext kept run = silent s t m kept run
-run_with s t (e ∷ j) packets m ext kept run =
+pub silent-mirrors : (s t : GuestState) → Mirrors s → Silent s t → Mirrors t
+silent-mirrors s t mirrors step = ⊎_elim
+    (λ (e : t ≡ s). subst Mirrors (sym e) mirrors)
+    (λ (x : ComesToHand s t). hand-mirrors s t mirrors x)
+    step
+
+run_with : (s t : GuestState) (j : List Event) (packets : List Packet) (m : PrivateMachine) → Extends t.received packets → Kept s m → Mirrors s → Run s j t → Kept t (private_run m (own packets j))
+run_with s t [] packets m ext kept mirrors run = silent s t m kept run
+run_with s t (e ∷ j) packets m ext kept mirrors run =
     let rest : Extends run.1.received packets = further run.1.received t.received packets (run_packets run.1 t j run.4) ext in
-    subst (Kept t) (sym (own-cons packets m e j)) (run_with run.1 t j packets (after packets m e) ext (step run.0 run.1 e packets m rest (silent s run.0 m kept run.2) run.3) run.4)
+    let before = silent-mirrors s run.0 mirrors run.2 in
+    subst (Kept t) (sym (own-cons packets m e j)) (run_with run.1 t j packets (after packets m e) ext (step run.0 run.1 e packets m rest (silent s run.0 m kept run.2) before run.3) (row-mirrors run.0 run.1 e before run.3) run.4)
 
-pub run_kept : (s t : GuestState) (j : List Event) (m : PrivateMachine) → Kept s m → Run s j t → Kept t (private_run m (own t.received j))
-run_kept s t j m kept run = run_with s t j t.received m (same_packets t.received t.received refl) kept run
+pub run-mirrors : (s t : GuestState) (j : List Event) → Mirrors s → Run s j t → Mirrors t
+run-mirrors s t [] mirrors run = silent-mirrors s t mirrors run
+run-mirrors s t (e ∷ j) mirrors run = run-mirrors run.1 t j (row-mirrors run.0 run.1 e (silent-mirrors s run.0 mirrors run.2) run.3) run.4
 
-pub start_kept : (s : GuestState) → Coherent s → Kept s (content s)
+pub run_kept : (s t : GuestState) (j : List Event) (m : PrivateMachine) → Kept s m → Mirrors s → Run s j t → Kept t (private_run m (own t.received j))
+run_kept s t j m kept mirrors run = run_with s t j t.received m (same_packets t.received t.received refl) kept mirrors run
+
+pub start_kept : (s : GuestState) → Consistent s → Kept s (content s)
 start_kept s co = known s (content s) co refl
+
+-- the same with the register pages
+pub run_coherent : (s t : GuestState) (j : List Event) → Coherent s → Run s j t → t.end ≡ None → Coherent t
+run_coherent s t j co run on = record {
+  consistent = (run_kept s t j (content s) (start_kept s co.consistent) co.mirrors run).coherent on;
+  mirrors = run-mirrors s t j co.mirrors run;
+}

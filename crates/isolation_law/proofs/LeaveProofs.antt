@@ -8,7 +8,7 @@ use Rattle.base_words.specs.Halves.{Half, without_page}
 use Rattle.base_words.specs.Membership.{Has}
 use Rattle.private_machine.specs.Backing.{Move, Page, no_page}
 use Rattle.private_machine.specs.PageMove.{acknowledged, left_by}
-use Rattle.isolation_law.specs.Coherence.{HalfOnPage, Coherent}
+use Rattle.isolation_law.specs.Coherence.{HalfOnPage, Consistent}
 use Rattle.isolation_law.specs.PageRules.{MoveRule, PageRule, is_breaking, needs_spare, sources, Sources}
 use Rattle.isolation_law.specs.Content.{content}
 use Rattle.isolation_law.specs.GuestState.{GuestState, idle, page, processor, with_processor, operation_of}
@@ -48,20 +48,20 @@ Has-without q hs h has =
 lost : (s : GuestState) (p r : ℕ) → r ≡ p → length s.processors ≤ p → (h : Half) → Has (processor s r).tlb h → ⊥
 lost s p r e ge h has = subst (λ (x : Processor). Has x.tlb h) (ap (processor s) e ∙ get_or_past s.processors p idle ge) has
 
-pub acks_keeps : (s t : GuestState) (p q : ℕ) → Coherent s → Acks s p q t → Coherent t
+pub acks_keeps : (s t : GuestState) (p q : ℕ) → Consistent s → Acks s p q t → Consistent t
 acks_keeps s t p q co row =
     let g = page s q in
     let there : q < length s.pages = moving_within s.pages q row.move row.open_move in
     let less : Processor = record (processor s p) { tlb = without_page q (processor s p).tlb } in
     let s1 = with_processor s p less in
     let was : (h : Half) → Has less.tlb h → Has (processor s p).tlb h = λ h has. (Has-without q (processor s p).tlb h has).0 in
-    let co1 : Coherent s1 = coherent_with_processor s p less co
+    let co1 : Consistent s1 = coherent_with_processor s p less co
     (λ h has. (co.within p h (was h has), co.on_page p h (was h has)))
     (λ v h has mine. co.in_tlb p v h (was h has) mine)
     (λ v h has mine off. co.exact p v h (was h has) mine off)
     (λ none. ap (without_page q) (co.empty p none))
     (λ v r mine other. co.once r p v other mine) in
-    subst Coherent (sym row.after) (coherent_with_page s1 q (left_by p g) there co1 (left_rule (sources s1) (length s1.processors) p (operation_of s q) g (co1.by_page q there))
+    subst Consistent (sym row.after) (coherent_with_page s1 q (left_by p g) there co1 (left_rule (sources s1) (length s1.processors) p (operation_of s q) g (co1.by_page q there))
     (λ r h. at_place (λ k x. Has x.tlb h → h.page ≡ q → HalfOnPage g k h → HalfOnPage (left_by p g) k h) s.processors p less idle r
     (λ _ has at. absurd ((Has-without q (processor s p).tlb h has).1 at))
     (λ far has at old. ⊎_elim
@@ -75,8 +75,8 @@ acks_keeps s t p q co row =
 pub acks_content : (s t : GuestState) (p q : ℕ) → Acks s p q t → content t ≡ content s
 acks_content s t p q row = ap content row.after ∙ content-page s q (left_by p (page s q)) refl
 
-pub loads_keeps : (s t : GuestState) (p v : ℕ) → Coherent s → Loads s p v t → Coherent t
-loads_keeps s t p v co row = subst Coherent (sym row.after) (coherent_with_processor s p (record { loaded = Some v; tlb = [] }) co
+pub loads_keeps : (s t : GuestState) (p v : ℕ) → Consistent s → Loads s p v t → Consistent t
+loads_keeps s t p v co row = subst Consistent (sym row.after) (coherent_with_processor s p (record { loaded = Some v; tlb = [] }) co
     (λ h has. absurd has)
     (λ u h has mine. absurd has)
     (λ u h has mine off. absurd has)

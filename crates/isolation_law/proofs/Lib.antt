@@ -18,6 +18,7 @@ mod PacketProofs
 mod StartProofs
 mod RefillFacts
 mod EntryProofs
+mod PageProofs
 mod Stepping
 mod DirectKeeps
 mod DirectContent
@@ -35,6 +36,10 @@ mod LiveParts
 mod LiveRows
 mod LiveCellProofs
 mod SpreadParts
+mod PageEffects
+mod VcpuCounts
+mod MirrorProofs
+mod AlikeProofs
 mod LawProofs
 mod ExchangeProofs
 mod AroundProofs
@@ -68,3 +73,4 @@ mod DueProofs
 mod PageCountProofs
 mod UseProofs
 mod MoveCountProofs
+mod LostRun

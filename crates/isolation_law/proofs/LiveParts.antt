@@ -1,5 +1,5 @@
 -- A guest that uses no failed cell: the parts that tell it, and how they change.
-use Rattle.std.proofs.Common.{◌≡◌, ℕ, zero, suc, ◌<◌, Bool, true, false, if◌then◌else◌, ◌⊎◌, inl, inr, ⊎_elim, Option, Some, None, List, [], ◌∷◌, ◌++◌, length, map, set, get_or, ◌==◌, refl, sym, ap, ◌∙◌, subst, length-set}
+use Rattle.std.proofs.Common.{◌≡◌, ℕ, zero, suc, ◌<◌, Bool, true, false, if◌then◌else◌, ◌⊎◌, inl, inr, ⊎_elim, Option, Some, None, List, [], ◌∷◌, ◌++◌, length, map, set, get_or, ◌==◌, refl, sym, ap, subst, length-set}
 use Rattle.std.specs.Prelude.{option_map, option_to_list, option_and_then, remove}
 use Rattle.base_words.specs.Membership.{Has}
 use Rattle.private_machine.specs.Backing.{Copy, Change, Migrates, Replicates, Collapses, Breaks, TakesShared, GivesShared, Move, Page, copies, with_bytes, stored_in, stored_through, no_page}
@@ -9,7 +9,6 @@ use Rattle.isolation_law.specs.GuestState.{GuestState, idle}
 use Rattle.isolation_law.specs.Parts.{Processor}
 use Rattle.isolation_law.specs.Surroundings.{Surroundings, cell_of_frame, cell_of_processor}
 use Rattle.isolation_law.proofs.Parts.{at_place}
-use Rattle.std.proofs.lemmas.List.{map-append}
 use Rattle.base_words.specs.Memory.{with_word}
 
 -- the frame is one of these
@@ -48,22 +47,12 @@ HasFrame-remove (c ∷ cs) zero f has = inr has
 HasFrame-remove (c ∷ cs) (suc i) f has = ⊎_elim (λ (is : c.frame ≡ f). inl is) (λ later. inr (HasFrame-remove cs i f later)) has
 
 -- pages: each of these has no further frame
-stored_in-frames : (cs : List Copy) (frame o w : ℕ) → map (λ c. c.frame) (stored_in cs frame o w) ≡ map (λ c. c.frame) cs
-stored_in-frames [] frame o w = refl
-stored_in-frames (c ∷ cs) frame o w = elim (c.frame == frame) as (λ b. map (λ x. x.frame) (if b then with_bytes (with_word c.bytes o w) c ∷ cs else c ∷ stored_in cs frame o w) ≡ c.frame ∷ map (λ x. x.frame) cs) [
-  | true ↦ refl
-  | false ↦ ap (λ (l : List ℕ). c.frame ∷ l) (stored_in-frames cs frame o w)
-]
-
-frames-append : (cs ds es : List Copy) → map (λ c. c.frame) cs ≡ map (λ c. c.frame) ds → map (λ c. c.frame) (cs ++ es) ≡ map (λ c. c.frame) (ds ++ es)
-frames-append cs ds es e = map-append (λ (c : Copy). c.frame) cs es ∙ ap (λ (l : List ℕ). l ++ map (λ c. c.frame) es) e ∙ sym (map-append (λ (c : Copy). c.frame) ds es)
-
 pub stored-frames : (g : Page) (frame o w : ℕ) → map (λ c. c.frame) (used_for (stored_through g frame o w)) ≡ map (λ c. c.frame) (used_for g)
 stored-frames g frame o w = by (g.master.frame == frame)
   where
     by : (b : Bool) → map (λ c. c.frame) (used_for (if b then record g { master = with_bytes (with_word g.master.bytes o w) g.master } else record g { replicas = stored_in g.replicas frame o w })) ≡ map (λ c. c.frame) (used_for g)
     by true = refl
-    by false = ap (λ (l : List ℕ). g.master.frame ∷ l) (frames-append (stored_in g.replicas frame o w) g.replicas (option_to_list (option_and_then target_in g.move)) (stored_in-frames g.replicas frame o w))
+    by false = refl
 
 left-targets : (p : ℕ) (m : Option Move) → option_and_then target_in (option_map (acknowledged p) m) ≡ option_and_then target_in m
 left-targets p None = refl
@@ -73,46 +62,28 @@ pub left-held : (p : ℕ) (g : Page) → held_for (left_by p g) ≡ held_for g
 left-held p g = ap (λ (t : Option Copy). copies g ++ option_to_list t) (left-targets p g.move)
 
 pub left-used : (p : ℕ) (g : Page) → used_for (left_by p g) ≡ used_for g
-left-used p g = left-held p g
+left-used p g = ap (λ (t : Option Copy). g.master ∷ option_to_list t) (left-targets p g.move)
 
 pub begun-frames : (change : Change) (g : Page) (f : ℕ) → HasFrame (used_for (begun change g)) f → HasFrame (used_for g) f ⊎ HasFrame (option_to_list (target_of change)) f
-begun-frames change g f has = ⊎_elim
-    (λ (x : HasFrame (copies g) f). inl (HasFrame-left (copies g) (option_to_list (option_and_then target_in g.move)) f x))
-    (λ (x : HasFrame (option_to_list (target_of change)) f). inr x)
-    (HasFrame-append (copies g) (option_to_list (target_of change)) f has)
+begun-frames change g f has = ⊎_elim (λ (is : g.master.frame ≡ f). inl (inl is)) (λ (x : HasFrame (option_to_list (target_of change)) f). inr x) has
 
 -- the frames of a page with an open move
 pub open-held : (g : Page) (m : Move) → g.move ≡ Some m → held_for g ≡ copies g ++ option_to_list (target_of m.change)
 open-held g m e = ap (λ (o : Option Move). copies g ++ option_to_list (option_and_then target_in o)) e
 
-open-used : (g : Page) (m : Move) → g.move ≡ Some m → used_for g ≡ copies g ++ option_to_list (target_of m.change)
-open-used g m e = open-held g m e
+pub open-used : (g : Page) (m : Move) → g.move ≡ Some m → used_for g ≡ g.master ∷ option_to_list (target_of m.change)
+open-used g m e = ap (λ (o : Option Move). g.master ∷ option_to_list (option_and_then target_in o)) e
 
 pub target-used : (g : Page) (m : Move) (f : ℕ) → g.move ≡ Some m → HasFrame (option_to_list (target_of m.change)) f → HasFrame (used_for g) f
-target-used g m f e has = subst (λ (l : List Copy). HasFrame l f) (sym (open-used g m e)) (HasFrame-right (copies g) (option_to_list (target_of m.change)) f has)
+target-used g m f e has = subst (λ (l : List Copy). HasFrame l f) (sym (open-used g m e)) (inr has)
 
-finished-of : (change : Change) (g : Page) (f : ℕ) → HasFrame (used_for (finished change g)) f → HasFrame (copies g ++ option_to_list (target_of change)) f
-finished-of (Migrates target) g f has = ⊎_elim
-    (λ (is : target.frame ≡ f). HasFrame-right (copies g) (target ∷ []) f (inl is))
-    (λ later. ⊎_elim (λ (x : HasFrame g.replicas f). HasFrame-left (copies g) (target ∷ []) f (inr x)) (λ none. absurd none) (HasFrame-append g.replicas [] f later))
-    has
-finished-of (Replicates target) g f has = ⊎_elim
-    (λ (is : g.master.frame ≡ f). HasFrame-left (copies g) (target ∷ []) f (inl is))
-    (λ later. ⊎_elim
-    (λ (x : HasFrame (g.replicas ++ with_bytes g.master.bytes target ∷ []) f). ⊎_elim
-    (λ (y : HasFrame g.replicas f). HasFrame-left (copies g) (target ∷ []) f (inr y))
-    (λ (y : HasFrame (with_bytes g.master.bytes target ∷ []) f). HasFrame-right (copies g) (target ∷ []) f y)
-    (HasFrame-append g.replicas (with_bytes g.master.bytes target ∷ []) f x))
-    (λ none. absurd none)
-    (HasFrame-append (g.replicas ++ with_bytes g.master.bytes target ∷ []) [] f later))
-    has
-finished-of Collapses g f has = ⊎_elim (λ (is : g.master.frame ≡ f). HasFrame-left (copies g) [] f (inl is)) (λ none. absurd none) has
-finished-of (Breaks target) g f has = ⊎_elim
-    (λ (is : target.frame ≡ f). HasFrame-right (copies g) (target ∷ []) f (inl is))
-    (λ later. ⊎_elim (λ (x : HasFrame g.replicas f). HasFrame-left (copies g) (target ∷ []) f (inr x)) (λ none. absurd none) (HasFrame-append g.replicas [] f later))
-    has
-finished-of (TakesShared target) g f has = ⊎_elim (λ (x : HasFrame (copies g) f). HasFrame-left (copies g) (target ∷ []) f x) (λ none. absurd none) (HasFrame-append (copies g) [] f has)
-finished-of (GivesShared target) g f has = ⊎_elim (λ (is : g.master.frame ≡ f). HasFrame-left (copies g) (target ∷ []) f (inl is)) (λ none. absurd none) has
+finished-of : (change : Change) (g : Page) (f : ℕ) → HasFrame (used_for (finished change g)) f → HasFrame (g.master ∷ option_to_list (target_of change)) f
+finished-of (Migrates target) g f has = ⊎_elim (λ (is : target.frame ≡ f). inr (inl is)) (λ none. absurd none) has
+finished-of (Replicates target) g f has = ⊎_elim (λ (is : g.master.frame ≡ f). inl is) (λ none. absurd none) has
+finished-of Collapses g f has = has
+finished-of (Breaks target) g f has = ⊎_elim (λ (is : target.frame ≡ f). inr (inl is)) (λ none. absurd none) has
+finished-of (TakesShared target) g f has = ⊎_elim (λ (is : g.master.frame ≡ f). inl is) (λ none. absurd none) has
+finished-of (GivesShared target) g f has = ⊎_elim (λ (is : g.master.frame ≡ f). inl is) (λ none. absurd none) has
 
 pub finished-frames : (g : Page) (m : Move) (f : ℕ) → g.move ≡ Some m → HasFrame (used_for (finished m.change g)) f → HasFrame (used_for g) f
 finished-frames g m f e has = subst (λ (l : List Copy). HasFrame l f) (sym (open-used g m e)) (finished-of m.change g f has)

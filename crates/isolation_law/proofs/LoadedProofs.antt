@@ -13,7 +13,7 @@ use Rattle.private_machine.specs.DirectAccess.{data_reached, data_told, stepped_
 use Rattle.private_machine.specs.HardwareStep.{Done}
 use Rattle.isolation_law.specs.DirectStep.{with_inputs, held_of, with_held, ticked_with, data_noted, direct}
 use Rattle.isolation_law.specs.EndRows.{LetsGo}
-use Rattle.isolation_law.specs.GuestState.{GuestState, idle, processor}
+use Rattle.isolation_law.specs.GuestState.{GuestState, idle, processor, block_at}
 use Rattle.isolation_law.specs.LoadsIn.{loaded_after}
 use Rattle.isolation_law.specs.MachineEvent.{Row}
 use Rattle.isolation_law.specs.MoveRows.{Finishes}
@@ -77,8 +77,8 @@ noted-processors p (at_data.Store page frame) s = refl
 direct-processors : (s : GuestState) (p v : ℕ) (d : Done) → (direct s p v d).processors ≡ s.processors
 direct-processors s p v d =
     let before = with_inputs s v in
-    let after = stepped_through v (held_of before) d in
-    noted-processors p (data_told v (data_reached d) d.does.request (held_of before)) (ticked_with v after.registers (with_held after.held before))
+    let after = stepped_through v (block_at before v) (held_of before) d in
+    noted-processors p (data_told v (data_reached d) d.does.request (held_of before)) (ticked_with v after.registers d.does.request (with_held after.held before))
 
 -- what a row leaves
 left-loading : (e : Event) (s t made : GuestState) → t ≡ made → Loading e s.processors made.processors → Loading e s.processors t.processors

@@ -14,10 +14,10 @@ use Rattle.private_machine.specs.Backing.{Copy, Page}
 use Rattle.private_machine.specs.OwnStep.{led, is_privileged}
 use Rattle.private_machine.specs.PrivateMachine.{PrivateMachine}
 use Rattle.private_machine.specs.Reaching.{Wanted, Lack, NoRange, NoHalf, DeadFrame, NoStore, Sight, Reached, at_half, wanted, fetch_at, through_half, in_segment, reached}
-use Rattle.private_machine.specs.HardwareStep.{Trap, Line, Dead, Privileged, Done, fetch_trap, data_trap, with_data, accesses, executes, fetches, hardware_step, word_through}
+use Rattle.private_machine.specs.HardwareStep.{Trap, Line, Dead, Privileged, Done, fetch_trap, data_trap, with_data, asks_of, accesses, executes, fetches, hardware_step, word_through}
 use Rattle.isolation_law.specs.GuestState.{GuestState, page, processor, vcpu_of, is_dead}
 use Rattle.isolation_law.specs.Surroundings.{cell_of_frame}
-use Rattle.isolation_law.specs.Coherence.{Coherent}
+use Rattle.isolation_law.specs.Coherence.{Consistent}
 use Rattle.isolation_law.specs.Content.{content}
 use Rattle.isolation_law.specs.LiveCells.{UsesLive}
 use Rattle.isolation_law.specs.Phases.{GoesOn}
@@ -94,7 +94,7 @@ step-dead x pages regs at w e = line x.line e
 
     does-it : (k : ℕ) (from : Reached) (r : Result Effect Exception) → executes x k from r ≡ Err (Dead at w) → Losing x w at
     does-it k from (Err y) e = cc
-    does-it k from (Ok does) e = asks k from does (wanted does.request) e
+    does-it k from (Ok does) e = asks k from (asks_of x does) (wanted (asks_of x does).request) e
 
     decides : (k : ℕ) (from : Reached) (b : Bool) → (if b then Err (Privileged k) else executes x k from (effect (decoded k) regs)) ≡ Err (Dead at w) → Losing x w at
     decides k from true e = cc
@@ -118,7 +118,7 @@ step-dead x pages regs at w e = line x.line e
 abbrev IsReplica : GuestState → Reached → Type 0
 IsReplica s at = (at.page < length s.pages) × ((page s at.page).shared ≡ false) × ((c : Copy) × Has (page s at.page).replicas c × (c.frame ≡ at.frame))
 
-lost-at : (s : GuestState) (p v : ℕ) (at : Reached) (w : Wanted) → Coherent s → UsesLive s → GoesOn s → (processor s p).loaded ≡ Some v → step_on s p v ≡ Err (Dead at w) → IsReplica s at
+lost-at : (s : GuestState) (p v : ℕ) (at : Reached) (w : Wanted) → Consistent s → UsesLive s → GoesOn s → (processor s p).loaded ≡ Some v → step_on s p v ≡ Err (Dead at w) → IsReplica s at
 lost-at s p v at w co live on runs e =
     let u = with_inputs s v in
     let r = step-dead (sight u p v) u.pages (vcpu_of u v).registers at w e in
@@ -138,16 +138,23 @@ lost-at s p v at w co live on runs e =
     ] in
     subst (IsReplica s) (sym r.reaches) (lt, own g.shared refl, (on_page.backed.0, replica, on_page.backed.2))
 
-pub lost-replica : (s : GuestState) (p v : ℕ) (at : Reached) (w : Wanted) → Coherent s → UsesLive s → GoesOn s → (processor s p).loaded ≡ Some v → step_on s p v ≡ Err (Dead at w) → (at.page < length s.pages) × ((page s at.page).shared ≡ false) × ((page s at.page).replicas ≢ [])
+pub lost-replica : (s : GuestState) (p v : ℕ) (at : Reached) (w : Wanted) → Consistent s → UsesLive s → GoesOn s → (processor s p).loaded ≡ Some v → step_on s p v ≡ Err (Dead at w) → (at.page < length s.pages) × ((page s at.page).shared ≡ false) × ((page s at.page).replicas ≢ [])
 lost-replica s p v at w co live on runs e =
     let r = lost-at s p v at w co live on runs e in
     (r.0, r.1, λ none. subst (λ (l : List Copy). Has l r.2.0) none r.2.1)
 
-pub lost-frame : (s : GuestState) (p v : ℕ) (at : Reached) (w : Wanted) → Coherent s → UsesLive s → GoesOn s → (processor s p).loaded ≡ Some v → step_on s p v ≡ Err (Dead at w) → (c : Copy) × Has (page s at.page).replicas c × (c.frame ≡ at.frame)
+pub lost-frame : (s : GuestState) (p v : ℕ) (at : Reached) (w : Wanted) → Consistent s → UsesLive s → GoesOn s → (processor s p).loaded ≡ Some v → step_on s p v ≡ Err (Dead at w) → (c : Copy) × Has (page s at.page).replicas c × (c.frame ≡ at.frame)
 lost-frame s p v at w co live on runs e = (lost-at s p v at w co live on runs e).2
 
+-- a half of the processor's TLB leads there
+pub lost-half : (s : GuestState) (p v : ℕ) (at : Reached) (w : Wanted) → step_on s p v ≡ Err (Dead at w) → (h : Half) × Has (processor s p).tlb h × (h.page ≡ at.page) × (h.frame ≡ at.frame)
+lost-half s p v at w e =
+    let u = with_inputs s v in
+    let r = step-dead (sight u p v) u.pages (vcpu_of u v).registers at w e in
+    (r.half, r.has, ap (λ (a : Reached). a.page) (sym r.reaches), ap (λ (a : Reached). a.frame) (sym r.reaches))
+
 -- the guest itself says that the access leads to this page, as a load
-pub lost-leads : (s : GuestState) (p v : ℕ) (at : Reached) (w : Wanted) → Coherent s → (processor s p).loaded ≡ Some v → step_on s p v ≡ Err (Dead at w) → led (content s) v w.unit Load w.address ≡ Ok (Memory (at.page * 4096 + w.address % 4096))
+pub lost-leads : (s : GuestState) (p v : ℕ) (at : Reached) (w : Wanted) → Consistent s → (processor s p).loaded ≡ Some v → step_on s p v ≡ Err (Dead at w) → led (content s) v w.unit Load w.address ≡ Ok (Memory (at.page * 4096 + w.address % 4096))
 lost-leads s p v at w co runs e =
     let u = with_inputs s v in
     let r = step-dead (sight u p v) u.pages (vcpu_of u v).registers at w e in

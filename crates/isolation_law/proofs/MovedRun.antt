@@ -34,6 +34,7 @@ use Rattle.base_words.specs.declared.moves.MoveKind.TheVariants.{Migrate}
 abbrev pub around : Surroundings
 around = record {
   guest = 0;
+  profile = 1;
   home = 0;
   frames = 4;
   nodes = 0 ∷ 0 ∷ [];

@@ -14,7 +14,7 @@ use Rattle.base_words.specs.Fields.{opcode, function, rt}
 use Rattle.base_words.specs.OpcodeMap.{primary_map, special_map, register_immediate_map, special_instruction, register_immediate_instruction, instruction_at, decoded}
 use Rattle.base_words.specs.Instruction.{Effect, effect}
 use Rattle.private_machine.specs.OwnStep.{is_privileged}
-use Rattle.isolation_law.proofs.DirectContent.{OfMemory}
+use Rattle.isolation_law.proofs.PageProofs.{OfMemory}
 
 abbrev is_cp0 : Primary → Bool
 is_cp0 primary.Special = false

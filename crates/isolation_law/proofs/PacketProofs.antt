@@ -14,7 +14,7 @@ use Rattle.private_machine.specs.PageMove.{taken, spares_taken}
 use Rattle.private_machine.specs.PrivateMachine.{PrivateMachine}
 use Rattle.private_machine.specs.Vcpu.{no_vcpu, with_line_on}
 use Rattle.private_machine.specs.declared.vcpu.Vcpu.{Vcpu}
-use Rattle.isolation_law.specs.Coherence.{Sound, Coherent}
+use Rattle.isolation_law.specs.Coherence.{Sound, Consistent}
 use Rattle.isolation_law.specs.PageRules.{needs_spare, Sources, sources}
 use Rattle.isolation_law.specs.Content.{content, with_own}
 use Rattle.isolation_law.specs.GuestState.{GuestState, page, with_page, hand_place, operation_of}
@@ -28,8 +28,8 @@ use Rattle.isolation_law.proofs.FinishProofs.{open_rule, nobody_maps}
 use Rattle.isolation_law.proofs.SourceProofs.{coherent_with_sources, passed}
 
 -- the guest's own parts change, but no TLB of them, and the packet in hand is received
-received_keeps : (s : GuestState) (m : PrivateMachine) (x : Packet) → Coherent s → ((q : ℕ) → m.devices.armed ≡ Some q → q < length s.pages) → map (λ c. c.tlb) m.vcpus ≡ map (λ c. c.tlb) s.vcpus
-    → Coherent (record (with_own m s) { hand = None; received = s.received ++ x ∷ [] })
+received_keeps : (s : GuestState) (m : PrivateMachine) (x : Packet) → Consistent s → ((q : ℕ) → m.devices.armed ≡ Some q → q < length s.pages) → map (λ c. c.tlb) m.vcpus ≡ map (λ c. c.tlb) s.vcpus
+    → Consistent (record (with_own m s) { hand = None; received = s.received ++ x ∷ [] })
 received_keeps s m x co armed same =
     let new : Sources = record { disk = s.disk; place = length (s.received ++ x ∷ []) + length s.discarded; hand = None } in
     let more : hand_place s < new.place = let one = length-append s.received (x ∷ []) in omega arith in
@@ -56,7 +56,7 @@ packet-armed m from bytes None q r is e = cc
 packet-armed m from bytes (Some k) q r is e = cc
 
 -- the first bytes of an own page without replicas are replaced
-pub filled_keeps : (s : GuestState) (q : ℕ) (bytes : List ℕ) → Coherent s → q < length s.pages → length bytes ≤ 4096 → (page s q).replicas ≡ [] → Coherent (with_page s q (with_first bytes (page s q)))
+pub filled_keeps : (s : GuestState) (q : ℕ) (bytes : List ℕ) → Consistent s → q < length s.pages → length bytes ≤ 4096 → (page s q).replicas ≡ [] → Consistent (with_page s q (with_first bytes (page s q)))
 filled_keeps s q bytes co lt short alone =
     let g = page s q in
     let rule = co.by_page q lt in
@@ -78,7 +78,7 @@ filled_keeps s q bytes co lt short alone =
         has
 
 -- a page is taken shared
-pub taken_keeps : (s : GuestState) (q : ℕ) (target : Copy) (waiting : List Bool) → Coherent s → (page s q).move ≡ Some (record { change = TakesShared target; waiting = waiting }) → HasNone waiting → Coherent (taken_shared q target s)
+pub taken_keeps : (s : GuestState) (q : ℕ) (target : Copy) (waiting : List Bool) → Consistent s → (page s q).move ≡ Some (record { change = TakesShared target; waiting = waiting }) → HasNone waiting → Consistent (taken_shared q target s)
 taken_keeps s q target waiting co is nobody =
     let g = page s q in
     let m : Move = record { change = TakesShared target; waiting = waiting } in
@@ -91,7 +91,7 @@ taken_keeps s q target waiting co is nobody =
     let c = count_by-set needs_spare s.pages q (taken target g) no_page lt in
     let counts : (count_by needs_spare s.pages ≤ length more) × (count_by needs_spare (set s.pages q (taken target g)) ≤ length more) = by_shared g.shared refl c in
     let s1 : GuestState = record s { spares = more } in
-    let done : Coherent (with_page s1 q (taken target g)) =
+    let done : Consistent (with_page s1 q (taken target g)) =
     coherent_with_page s1 q (taken target g) lt (coherent_with_spares s more co counts.0)
     (record { whole = fine.1; equal = λ c has. absurd has; single = λ _. refl; moves = tt; sized = rule.sized })
     (λ p h has at old. absurd (true≢false (sym old.is_mapped ∙ unmapped p)))
@@ -115,21 +115,21 @@ taken_keeps s q target waiting co is nobody =
 alone : (s : GuestState) (shares : Bool) (packet : Packet) (q : ℕ) → for_packet s shares packet q ≡ None → (page s q).replicas ≡ []
 alone s shares packet q none = grind arith
 
-pub receives_keeps : (s t : GuestState) (k : ℕ) → Coherent s → Receives s k t → Coherent t
+pub receives_keeps : (s t : GuestState) (k : ℕ) → Consistent s → Receives s k t → Consistent t
 receives_keeps s t k co row =
     let q = row.q in
     let bytes = row.packet.bytes in
     let lt = co.armed_page q row.delivered.armed in
     let co1 = filled_keeps s q bytes co lt (co.packet row.packet row.delivered.in_hand) (alone s row.shares row.packet q row.needs_nothing) in
-    subst Coherent (sym row.after) (received_keeps (with_page s q (with_first bytes (page s q))) (own_packet (content s) row.packet.from bytes) row.packet co1
+    subst Consistent (sym row.after) (received_keeps (with_page s q (with_first bytes (page s q))) (own_packet (content s) row.packet.from bytes) row.packet co1
     (λ r e. absurd (packet-armed (content s) row.packet.from bytes s.devices.armed q r row.delivered.armed e))
     (packet-tlbs (content s) row.packet.from bytes s.devices.armed))
 
-pub ends_delivery_keeps : (s t : GuestState) (k : ℕ) → Coherent s → EndsDelivery s k t → Coherent t
+pub ends_delivery_keeps : (s t : GuestState) (k : ℕ) → Consistent s → EndsDelivery s k t → Consistent t
 ends_delivery_keeps s t k co row =
     let q = row.q in
     let bytes = row.packet.bytes in
     let co1 = taken_keeps s q row.target row.waiting co row.open_move row.nobody_waits in
-    subst Coherent (sym row.after) (received_keeps (taken_shared q row.target s) (own_packet (content s) row.packet.from bytes) row.packet co1
+    subst Consistent (sym row.after) (received_keeps (taken_shared q row.target s) (own_packet (content s) row.packet.from bytes) row.packet co1
     (λ r e. absurd (packet-armed (content s) row.packet.from bytes s.devices.armed q r row.delivered.armed e))
     (packet-tlbs (content s) row.packet.from bytes s.devices.armed))

@@ -6,7 +6,7 @@ use Rattle.base_words.specs.Halves.{Half}
 use Rattle.base_words.specs.Membership.{Has}
 use Rattle.private_machine.specs.Backing.{Copy, Page, no_page, Move}
 use Rattle.private_machine.specs.SecondLevel.{Second}
-use Rattle.isolation_law.specs.Coherence.{HalfOnPage, HalfInTlb, IsDenied, SecondRule, tlb_of, Coherent}
+use Rattle.isolation_law.specs.Coherence.{HalfOnPage, HalfInTlb, IsDenied, SecondRule, tlb_of, Consistent}
 use Rattle.isolation_law.specs.PageRules.{PageRule, needs_spare, sources, MoveRule}
 use Rattle.isolation_law.specs.Content.{content}
 use Rattle.isolation_law.specs.GuestState.{GuestState, idle, page, processor, second_level, with_page, with_processor, with_second_level, operation_of, with_operation}
@@ -20,12 +20,12 @@ at_place {A} P xs p new d r here there = ⊎_elim
     (λ (x : ((r ≡ p) → length xs ≤ p) × (get_or (set xs p new) r d ≡ get_or xs r d)). subst (P r) (sym x.1) (there x.0))
     (at_set xs p new d r)
 
-pub coherent_with_page : (s : GuestState) (q : ℕ) (new : Page) → q < length s.pages → Coherent s → PageRule (sources s) (length s.processors) (operation_of s q) new
+pub coherent_with_page : (s : GuestState) (q : ℕ) (new : Page) → q < length s.pages → Consistent s → PageRule (sources s) (length s.processors) (operation_of s q) new
     → ((p : ℕ) (h : Half) → Has (processor s p).tlb h → h.page ≡ q → HalfOnPage (page s q) p h → HalfOnPage new p h)
     → ((p : ℕ) (h : Half) → Has (processor s p).tlb h → h.page ≡ q → HalfOnPage (page s q) p h → (new.shared ≡ (page s q).shared) × (new.replicas ≡ (page s q).replicas))
     → ((v : ℕ) (e : Second) → Has (second_level s v) (Some e) → e.page ≡ q → (page s q).move ≡ None → new.move ≡ None)
     → count_by needs_spare (set s.pages q new) ≤ length s.spares
-    → Coherent (with_page s q new)
+    → Consistent (with_page s q new)
 coherent_with_page s q new lt co rule halves kept entries count =
     let tlbs = map (λ c. c.tlb) s.vcpus in
     record {
@@ -52,13 +52,13 @@ coherent_with_page s q new lt co rule halves kept entries count =
       packet = co.packet;
     }
 
-pub coherent_with_processor : (s : GuestState) (p : ℕ) (new : Processor) → Coherent s
+pub coherent_with_processor : (s : GuestState) (p : ℕ) (new : Processor) → Consistent s
     → ((h : Half) → Has new.tlb h → (h.page < length s.pages) × HalfOnPage (page s h.page) p h)
     → ((v : ℕ) (h : Half) → Has new.tlb h → new.loaded ≡ Some v → HalfInTlb (length s.pages) (tlb_of (map (λ c. c.tlb) s.vcpus) v) h)
     → ((v : ℕ) (h : Half) → Has new.tlb h → new.loaded ≡ Some v → h.writable ≡ false → IsDenied (length s.pages) (tlb_of (map (λ c. c.tlb) s.vcpus) v) (page s h.page) h)
     → (new.loaded ≡ None → new.tlb ≡ [])
     → ((v r : ℕ) → new.loaded ≡ Some v → (processor s r).loaded ≡ Some v → r ≡ p)
-    → Coherent (with_processor s p new)
+    → Consistent (with_processor s p new)
 coherent_with_processor s p new co halves in_tlb' exact' empty' alone =
     let tlbs = map (λ c. c.tlb) s.vcpus in
     record {
@@ -80,13 +80,13 @@ coherent_with_processor s p new co halves in_tlb' exact' empty' alone =
       packet = co.packet;
     }
 
-pub coherent_with_seconds : (s : GuestState) (new : List (List (Option Second))) → Coherent s
+pub coherent_with_seconds : (s : GuestState) (new : List (List (Option Second))) → Consistent s
     → ((v : ℕ) (e : Second) → Has (get_or new v []) (Some e) → Has (second_level s v) (Some e))
-    → Coherent (record s { seconds = new })
+    → Consistent (record s { seconds = new })
 coherent_with_seconds s new co kept =
     record { by_page = co.by_page; as_many = co.as_many; within = co.within; on_page = co.on_page; in_tlb = co.in_tlb; exact = co.exact; empty = co.empty; once = co.once; rests = λ v e has. co.rests v e (kept v e has); by_second = λ v e has. co.by_second v e (kept v e has); enough = co.enough; blocks = co.blocks; armed_page = co.armed_page; packet = co.packet }
 
-pub coherent_with_spares : (s : GuestState) (new : List Copy) → Coherent s → count_by needs_spare s.pages ≤ length new → Coherent (record s { spares = new })
+pub coherent_with_spares : (s : GuestState) (new : List Copy) → Consistent s → count_by needs_spare s.pages ≤ length new → Consistent (record s { spares = new })
 coherent_with_spares s new co count =
     record { by_page = co.by_page; as_many = co.as_many; within = co.within; on_page = co.on_page; in_tlb = co.in_tlb; exact = co.exact; empty = co.empty; once = co.once; rests = co.rests; by_second = co.by_second; enough = count; blocks = co.blocks; armed_page = co.armed_page; packet = co.packet }
 
@@ -108,14 +108,14 @@ content-page s q new e =
     let memory = flat_same s.pages q new e in
     λ i. record (content s) { pages = length-set s.pages q new i; memory = memory i }
 
-pub coherent_with_second_level : (s : GuestState) (v : ℕ) (new : List (Option Second)) → Coherent s
+pub coherent_with_second_level : (s : GuestState) (v : ℕ) (new : List (Option Second)) → Consistent s
     → ((e : Second) → Has new (Some e) → ((page s e.page).move ≡ None) × SecondRule (length s.pages) (tlb_of (map (λ c. c.tlb) s.vcpus) v) e)
-    → Coherent (with_second_level s v new)
+    → Consistent (with_second_level s v new)
 coherent_with_second_level s v new co entries =
     record { by_page = co.by_page; as_many = co.as_many; within = co.within; on_page = co.on_page; in_tlb = co.in_tlb; exact = co.exact; empty = co.empty; once = co.once; rests = λ u e. at_place (λ k x. Has x (Some e) → (page s e.page).move ≡ None) s.seconds v new [] u (λ _ has. (entries e has).0) (λ _. co.rests u e); by_second = λ u e. at_place (λ k x. Has x (Some e) → SecondRule (length s.pages) (tlb_of (map (λ c. c.tlb) s.vcpus) k) e) s.seconds v new [] u (λ _ has. (entries e has).1) (λ _. co.by_second u e); enough = co.enough; blocks = co.blocks; armed_page = co.armed_page; packet = co.packet }
 
 -- a page that rests may be noted to be taken shared for anything
-pub coherent_with_operation : (s : GuestState) (q : ℕ) (new : Option Operation) → Coherent s → (page s q).move ≡ None → Coherent (with_operation q new s)
+pub coherent_with_operation : (s : GuestState) (q : ℕ) (new : Option Operation) → Consistent s → (page s q).move ≡ None → Consistent (with_operation q new s)
 coherent_with_operation s q new co rests =
     record { by_page = λ r below. at_place (λ k o. k ≡ r → PageRule (sources s) (length s.processors) o (page s r)) s.operations q new None r (λ _ is. noted r is (co.by_page r below)) (λ _ _. co.by_page r below) refl; as_many = length-set s.operations q new ∙ co.as_many; within = co.within; on_page = co.on_page; in_tlb = co.in_tlb; exact = co.exact; empty = co.empty; once = co.once; rests = co.rests; by_second = co.by_second; enough = co.enough; blocks = co.blocks; armed_page = co.armed_page; packet = co.packet }
   where

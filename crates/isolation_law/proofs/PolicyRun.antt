@@ -52,6 +52,7 @@ abbrev begins : List ℕ → List ℕ → GuestState
 begins rest other = record {
   around = record around { processors = 1 ∷ []; homes = 0 ∷ 0 ∷ []; policy = record { migrate = 0; replicate = 1 } };
   vcpus = record (started 0xC000_0000) { registers = record (started 0xC000_0000).registers { general = general } } ∷ [];
+  blocks = None ∷ [];
   devices = record (untouched 1 []) { transfers = record { block = 0; page = 0; status = 0; send_page = 1; send_length = 4096 } ∷ [] };
   disk = [];
   sent_from = [];

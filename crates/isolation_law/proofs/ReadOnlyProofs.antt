@@ -16,13 +16,14 @@ use Rattle.base_words.specs.Membership.{Has}
 use Rattle.base_words.specs.OpcodeMap.{decoded}
 use Rattle.base_words.specs.Place.{Segment, Mapped, Direct, Outside, segment, is_store}
 use Rattle.private_machine.specs.Backing.{Page}
+use Rattle.private_machine.specs.RegisterPage.{redirected}
 use Rattle.private_machine.specs.OwnStep.{led, is_privileged}
-use Rattle.private_machine.specs.Reaching.{Wanted, Lack, NoRange, NoHalf, DeadFrame, NoStore, Sight, Reached, at_half, wanted, fetch_at, through_half, in_segment, reached}
-use Rattle.private_machine.specs.HardwareStep.{Trap, Line, ReadOnly, Privileged, Done, fetch_trap, data_trap, with_data, accesses, executes, fetches, hardware_step, word_through}
+use Rattle.private_machine.specs.Reaching.{Wanted, Lack, NoRange, NoHalf, DeadFrame, NoStore, Sight, Reached, at_half, wanted, fetch_at, through_half, in_segment, reached, is_open_to}
+use Rattle.private_machine.specs.HardwareStep.{Trap, Line, ReadOnly, Privileged, Done, fetch_trap, data_trap, with_data, asks_of, accesses, executes, fetches, hardware_step, word_through}
 use Rattle.isolation_law.specs.Given.{IsIn, given}
 use Rattle.isolation_law.specs.GuestState.{GuestState, page, processor, vcpu_of}
 use Rattle.isolation_law.specs.Content.{content}
-use Rattle.isolation_law.specs.Coherence.{HalfInTlb, IsDenied, Coherent}
+use Rattle.isolation_law.specs.Coherence.{HalfInTlb, IsDenied, Consistent}
 use Rattle.isolation_law.specs.DirectStep.{with_inputs, sight}
 use Rattle.isolation_law.specs.Traps.{step_on}
 use Rattle.isolation_law.proofs.DirectProofs.{found-has, is_of-in}
@@ -71,13 +72,13 @@ pub record Stored (x : Sight) (regs : Regs) (word : ℕ) (w : Wanted) : Type 0 w
   pub unprivileged : is_privileged word ≡ false
   pub does : Effect
   pub effects : effect (decoded word) regs ≡ Ok does
-  pub wants : wanted does.request ≡ Some w
+  pub wants : wanted (redirected (is_open_to x) does.request) ≡ Some w
   pub reach : reached x w ≡ Err NoStore
 
 pub stored : (x : Sight) (pages : List Page) (regs : Regs) (word : ℕ) (w : Wanted) → hardware_step x pages regs ≡ Err (ReadOnly word w) → Stored x regs word w
 stored x pages regs word w e = at-line x.line refl e
   where
-    by-lack : (k : ℕ) (v : Wanted) (does : Effect) (lack : Lack) → x.line ≡ false → is_privileged k ≡ false → effect (decoded k) regs ≡ Ok does → wanted does.request ≡ Some v → reached x v ≡ Err lack
+    by-lack : (k : ℕ) (v : Wanted) (does : Effect) (lack : Lack) → x.line ≡ false → is_privileged k ≡ false → effect (decoded k) regs ≡ Ok does → wanted (redirected (is_open_to x) does.request) ≡ Some v → reached x v ≡ Err lack
         → ◌≡◌ {A = Result Done Trap} (Err (data_trap k v lack)) (Err (ReadOnly word w)) → Stored x regs word w
     by-lack k v does NoRange line free is asks reach e = cc
     by-lack k v does NoHalf line free is asks reach e = cc
@@ -94,19 +95,19 @@ stored x pages regs word w e = at-line x.line refl e
           reach = subst (λ (z : Wanted). reached x z ≡ Err NoStore) same reach;
         }
 
-    reaches : (k : ℕ) (at : Reached) (v : Wanted) (does : Effect) (r : Result Reached Lack) → x.line ≡ false → is_privileged k ≡ false → effect (decoded k) regs ≡ Ok does → wanted does.request ≡ Some v → reached x v ≡ r
-        → with_data k v at does r ≡ Err (ReadOnly word w) → Stored x regs word w
+    reaches : (k : ℕ) (at : Reached) (v : Wanted) (does : Effect) (r : Result Reached Lack) → x.line ≡ false → is_privileged k ≡ false → effect (decoded k) regs ≡ Ok does → wanted (redirected (is_open_to x) does.request) ≡ Some v → reached x v ≡ r
+        → with_data k v at (asks_of x does) r ≡ Err (ReadOnly word w) → Stored x regs word w
     reaches k at v does (Err lack) line free is asks reach e = by-lack k v does lack line free is asks reach e
     reaches k at v does (Ok there) line free is asks reach e = cc
 
-    asks-for : (k : ℕ) (at : Reached) (does : Effect) (o : Option Wanted) → x.line ≡ false → is_privileged k ≡ false → effect (decoded k) regs ≡ Ok does → wanted does.request ≡ o
-        → accesses x k at does o ≡ Err (ReadOnly word w) → Stored x regs word w
+    asks-for : (k : ℕ) (at : Reached) (does : Effect) (o : Option Wanted) → x.line ≡ false → is_privileged k ≡ false → effect (decoded k) regs ≡ Ok does → wanted (redirected (is_open_to x) does.request) ≡ o
+        → accesses x k at (asks_of x does) o ≡ Err (ReadOnly word w) → Stored x regs word w
     asks-for k at does None line free is asks e = cc
     asks-for k at does (Some v) line free is asks e = reaches k at v does (reached x v) line free is asks refl e
 
     does-it : (k : ℕ) (at : Reached) (r : Result Effect Exception) → x.line ≡ false → is_privileged k ≡ false → effect (decoded k) regs ≡ r → executes x k at r ≡ Err (ReadOnly word w) → Stored x regs word w
     does-it k at (Err y) line free is e = cc
-    does-it k at (Ok does) line free is e = asks-for k at does (wanted does.request) line free is refl e
+    does-it k at (Ok does) line free is e = asks-for k at does (wanted (redirected (is_open_to x) does.request)) line free is refl e
 
     decides : (k : ℕ) (at : Reached) (b : Bool) → is_privileged k ≡ b → x.line ≡ false → (if b then Err (Privileged k) else executes x k at (effect (decoded k) regs)) ≡ Err (ReadOnly word w) → Stored x regs word w
     decides k at true free line e = cc
@@ -139,7 +140,7 @@ said-in pages tlb h asid rule is = by h.global refl is
     by true global is = rule.alike global h.asid asid Store
     by false global is = ap (λ (n : ℕ). given pages tlb n Store h.number) (eqb-true h.asid asid is)
 
-pub read-only : (s : GuestState) (p v word : ℕ) (w : Wanted) (offset : ℕ) → Coherent s → (processor s p).loaded ≡ Some v → step_on s p v ≡ Err (ReadOnly word w)
+pub read-only : (s : GuestState) (p v word : ℕ) (w : Wanted) (offset : ℕ) → Consistent s → (processor s p).loaded ≡ Some v → step_on s p v ≡ Err (ReadOnly word w)
     → led (content s) v w.unit w.purpose w.address ≡ Ok (Memory offset) → ((page s (offset / 4096)).shared ≡ true) ⊎ ((page s (offset / 4096)).replicas ≢ [])
 read-only s p v word w offset co runs e leads =
     let u = with_inputs s v in

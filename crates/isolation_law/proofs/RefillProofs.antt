@@ -1,9 +1,9 @@
 -- A refill keeps coherence and content.
 use Rattle.private_machine.specs.Operation.{Operation}
 use Rattle.base_words.specs.Tlb.{matches}
-use Rattle.std.proofs.Common.{◌≡◌, ◌≢◌, ℕ, zero, suc, ◌/◌, ◌%◌, ◌<◌, ◌==◌, Bool, true, false, not, ◌&&◌, if◌then◌else◌, cond, ◌⊎◌, inl, inr, ⊎_elim, Option, Some, None, Result, Ok, Err, List, [], ◌∷◌, length, map, set, get_or, refl, sym, ap, ◌∙◌, subst, arith, get_or-set_same, get_or-set_other, length-set, true≢false, ◌≤◌}
+use Rattle.std.proofs.Common.{◌≡◌, ◌≢◌, ℕ, zero, suc, ◌/◌, ◌%◌, ◌<◌, ◌==◌, Bool, true, false, not, ◌&&◌, if◌then◌else◌, ◌⊎◌, inl, inr, ⊎_elim, Option, Some, None, Result, Ok, Err, List, [], ◌∷◌, length, map, set, get_or, refl, sym, ap, ◌∙◌, subst, arith, get_or-set_same, get_or-set_other, length-set, true≢false, ◌≤◌, nat_lt, ◌||◌}
 use Rattle.std.proofs.lemmas.Bool.{cases_eq}
-use Rattle.std.specs.Prelude.{find, filter, unwrap_or}
+use Rattle.std.specs.Prelude.{find, filter}
 use Rattle.base_words.specs.declared.exception.Exception.{Exception}
 use Rattle.base_words.specs.declared.exception.Exception.TheVariants.{AddressError}
 use Rattle.base_words.specs.declared.exception.Use.{Use}
@@ -15,11 +15,11 @@ use Rattle.base_words.specs.Coprocessor.{in_user_mode}
 use Rattle.base_words.specs.Place.{Segment, Mapped, Direct, Outside, segment, translated, place}
 use Rattle.base_words.specs.Halves.{Half}
 use Rattle.base_words.specs.Membership.{Has}
-use Rattle.private_machine.specs.Backing.{Copy, Page, copies, nearest, no_page, lies_on}
+use Rattle.private_machine.specs.Backing.{Copy, Page, copies, node_of_frame, distance, nearest_among, nearest, no_page}
 use Rattle.private_machine.specs.PageMove.{named_by}
 use Rattle.private_machine.specs.SecondLevel.{Second, put}
 use Rattle.private_machine.specs.declared.vcpu.Vcpu.{Vcpu}
-use Rattle.isolation_law.specs.Coherence.{HalfOnPage, HalfInTlb, IsDenied, SecondRule, store_page, tlb_of, Coherent}
+use Rattle.isolation_law.specs.Coherence.{HalfOnPage, HalfInTlb, IsDenied, SecondRule, store_page, tlb_of, Consistent}
 use Rattle.isolation_law.specs.PageRules.{MoveRule, PageRule, sources}
 use Rattle.isolation_law.specs.Given.{given}
 use Rattle.isolation_law.specs.Content.{content}
@@ -32,7 +32,7 @@ use Rattle.guest_tlb.specs.Everywhere.{is_global_entry}
 use Rattle.isolation_law.specs.RefillRow.{Refills, half_for, second_for, store_granted}
 use Rattle.isolation_law.specs.Surroundings.{node_of_processor}
 use Rattle.private_machine.specs.TrapAccess.{is_memory}
-use Rattle.isolation_law.proofs.Lists.{Has-set}
+use Rattle.isolation_law.proofs.Lists.{Has-filter, Has-set}
 use Rattle.isolation_law.proofs.Parts.{coherent_with_page, coherent_with_processor, coherent_with_second_level, count_same, content-page}
 use Rattle.isolation_law.proofs.PlaceProofs.{given-place, user-place, base, pair-base, segment-base}
 use Rattle.isolation_law.proofs.GlobalProofs.{of_pair}
@@ -83,22 +83,22 @@ denied-given user entries asid pages unit a fits inside e = by (given pages entr
         absurd (true≢false (sym (ap is_memory led_there) ∙ e))
 
 -- the frame by which a node reaches a page is one of its copies
-nearest-copy : (s : GuestState) (lost : ℕ → Bool) (node : ℕ) (g : Page) → (c : Copy) × Has (copies g) c × (c.frame ≡ nearest s.around.frames lost node g)
-nearest-copy s lost node g = by (find near (copies g)) refl
+among-has : (frames node : ℕ) (best : Copy) (cs : List Copy) → Has (best ∷ cs) (nearest_among frames node best cs)
+among-has frames node best [] = inl refl
+among-has frames node best (c ∷ cs) =
+    let a = node_of_frame frames best.frame in
+    let b = node_of_frame frames c.frame in
+    by (nat_lt (distance b node) (distance a node) || ((distance b node == distance a node) && nat_lt b a)) (among-has frames node c cs) (among-has frames node best cs)
   where
-    near : Copy → Bool
-    near c = lies_on s.around.frames node c && not (lost c.frame)
+    by : (b : Bool) → Has (c ∷ cs) (nearest_among frames node c cs) → Has (best ∷ cs) (nearest_among frames node best cs) → Has (best ∷ c ∷ cs) (nearest_among frames node (if b then c else best) cs)
+    by true taken kept = inr taken
+    by false taken kept = ⊎_elim (λ is. inl is) (λ later. inr (inr later)) kept
 
-    found : (cs : List Copy) (c : Copy) → find near cs ≡ Some c → Has cs c
-    found [] c e = cc
-    found (d ∷ ds) c e = (elim (near d) as (λ b. cond b (Some d) (find near ds) ≡ Some c → Has (d ∷ ds) c) [
-      | true ↦ λ e. inl cc
-      | false ↦ λ e. inr (found ds c e)
-    ]) e
-
-    by : (o : Option Copy) → find near (copies g) ≡ o → (c : Copy) × Has (copies g) c × (c.frame ≡ nearest s.around.frames lost node g)
-    by None is = (g.master, inl refl, ap (λ (o : Option Copy). (unwrap_or o g.master).frame) (sym is))
-    by (Some c) is = (c, found (copies g) c is, ap (λ (o : Option Copy). (unwrap_or o g.master).frame) (sym is))
+nearest-copy : (s : GuestState) (lost : ℕ → Bool) (node : ℕ) (g : Page) → (c : Copy) × Has (copies g) c × (c.frame ≡ nearest s.around.frames lost node g)
+nearest-copy s lost node g =
+    let live = filter (λ (c : Copy). not (lost c.frame)) g.replicas in
+    let c = nearest_among s.around.frames node g.master live in
+    (c, ⊎_elim (λ (is : g.master ≡ c). inl is) (λ (later : Has live c). inr (Has-filter (λ (c : Copy). not (lost c.frame)) g.replicas c later).0) (among-has s.around.frames node g.master live), refl)
 
 loaded_within : (s : GuestState) (p v : ℕ) → (processor s p).loaded ≡ Some v → p < length s.processors
 loaded_within s p v e = within s.processors p e
@@ -152,7 +152,7 @@ everywhere-base tlb asid a = by (segment false a) ∙ ap (is_everywhere tlb asid
     by Direct = refl
     by Outside = refl
 
-pub refills_keeps : (s t : GuestState) (p : ℕ) → Coherent s → Refills s p t → Coherent t
+pub refills_keeps : (s t : GuestState) (p : ℕ) → Consistent s → Refills s p t → Consistent t
 refills_keeps s t p co row =
     let v = row.v in
     let w = row.access in
@@ -177,7 +177,7 @@ refills_keeps s t p co row =
     r.1 ∙ ap (λ (k : ℕ). Some k) (sym same) in
     let new = named_by p g in
     let s1 = with_page s q new in
-    let co1 : Coherent s1 = coherent_with_page s q new lt co (named_rule s p (operation_of s q) g rule row.rests)
+    let co1 : Consistent s1 = coherent_with_page s q new lt co (named_rule s p (operation_of s q) g rule row.rests)
     (λ r k has at old. named_half p r g k room old)
     (λ r k has at old. (refl, refl))
     (λ u e has at none. none)
@@ -205,7 +205,7 @@ refills_keeps s t p co row =
     let filled : Processor = record (processor s p) { tlb = row.halves } in
     let s2 = with_processor s1 p filled in
     let same_vcpu : (u : ℕ) → (processor s p).loaded ≡ Some u → v ≡ u = λ u is. some-same v u (sym row.runs.loaded ∙ is) in
-    let co2 : Coherent s2 = coherent_with_processor s1 p filled co1
+    let co2 : Consistent s2 = coherent_with_processor s1 p filled co1
     (λ k has. ⊎_elim
     (λ (is : h ≡ k). subst (λ (x : Half). (x.page < length s1.pages) × HalfOnPage (page s1 x.page) p x) is (rw same_pages lt, on_page))
     (λ later. let old = later.0 in (co1.within p k old, co1.on_page p k old))
@@ -229,7 +229,7 @@ refills_keeps s t p co row =
       stores = λ other is. given-in c other pages Store w.address is ∙ store_is (store_granted s v w) refl;
       everywhere = everywhere-base c.tlb asid w.address;
     }) in
-    subst Coherent (sym row.after) (coherent_with_second_level s2 v (put second (second_level s v)) co2
+    subst Consistent (sym row.after) (coherent_with_second_level s2 v (put second (second_level s v)) co2
     (λ e has. ⊎_elim
     (λ (is : Some second ≡ Some e). let same : second ≡ e = cc in subst (λ (x : Second). ((page s2 x.page).move ≡ None) × SecondRule (length s2.pages) (tlb_of tlbs v) x) same (ap (λ (x : Page). x.move) at_new ∙ row.rests, second_rule))
     (λ (old : Has (second_level s v) (Some e)). (co2.rests v e old, co2.by_second v e old))

@@ -20,7 +20,7 @@ use Rattle.private_machine.specs.TrapAccess.{is_memory}
 use Rattle.guest_tlb.specs.Everywhere.{is_global_entry}
 use Rattle.private_machine.specs.Everywhere.{is_everywhere}
 use Rattle.isolation_law.specs.RefillRow.{store_granted}
-use Rattle.isolation_law.specs.Coherence.{SecondRule, store_page, Coherent}
+use Rattle.isolation_law.specs.Coherence.{SecondRule, store_page, Consistent}
 use Rattle.isolation_law.specs.Given.{given, IsIn}
 use Rattle.isolation_law.specs.SecondServes.{IsOf, Serves}
 use Rattle.isolation_law.proofs.PlaceProofs.{given-place, user-place}
@@ -44,7 +44,7 @@ global-same : (tlb : List Entry) (global : Bool) (own asid a : ℕ) (g : Segment
 global-same tlb true own asid a g e is = everywhere-each tlb own asid a g (sym e)
 global-same tlb false own asid a g e is = ap (λ (n : ℕ). is_everywhere tlb n a g) (sym (eqb-true own asid is)) ∙ sym e
 
-pub second-serves : (s : GuestState) (v : ℕ) (e : Second) (w : Wanted) → Coherent s → IsOf s v e w → Serves s v e w
+pub second-serves : (s : GuestState) (v : ℕ) (e : Second) (w : Wanted) → Consistent s → IsOf s v e w → Serves s v e w
 second-serves s v e w co is =
     let c = vcpu_of s v in
     let user = in_user_mode c.cp0.status in

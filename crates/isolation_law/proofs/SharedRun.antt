@@ -24,7 +24,7 @@ use Rattle.isolation_law.specs.Parts.{Ended, SkipEntry}
 use Rattle.isolation_law.specs.RefillRow.{half_for, refilled}
 use Rattle.isolation_law.specs.Run.{Run}
 use Rattle.isolation_law.specs.SkipRow.{with_skipped}
-use Rattle.isolation_law.specs.StepRows.{taken_shared, emulated}
+use Rattle.isolation_law.specs.StepRows.{taken_shared, emulated, shown_again}
 use Rattle.isolation_law.specs.Traps.{step_on}
 use Rattle.base_words.specs.declared.events.Event.{Event}
 use Rattle.base_words.specs.declared.events.Event.TheVariants.{Unload, Direct, Refill, Emulate, Begin, Finish, Skip, End as Ending}
@@ -67,6 +67,7 @@ abbrev pub begins : List ℕ → List ℕ → List ℕ → GuestState
 begins rest other block = record {
   around = around;
   vcpus = record (started 0xC000_0000) { registers = record (started 0xC000_0000).registers { general = general } } ∷ [];
+  blocks = None ∷ [];
   devices = record (untouched 1 []) { transfers = record { block = 0; page = 1; status = 0; send_page = 0; send_length = 0 } ∷ [] };
   disk = record { given = block; overlay = None } ∷ [];
   sent_from = [];
@@ -121,7 +122,7 @@ reads_breaks_and_halts rest other block =
     let s0 = begins rest other block in
     let s1 = first_refilled s0 in
     let s2 = with_begun s1 1 (TakesShared (shared_frame block)) (Some (ReadsBlock 0 0)) [] in
-    let s3 = with_own (own_step (content s2) 0) (taken_shared 1 (shared_frame block) s2) in
+    let s3 = shown_again 0 (with_own (own_step (content s2) 0) (taken_shared 1 (shared_frame block) s2)) in
     let s4 = with_begun s3 1 (Breaks (own_frame other)) None [] in
     let s5 = with_finished s4 1 (Breaks (own_frame other)) in
     let s6 = filled_for_store s5 in

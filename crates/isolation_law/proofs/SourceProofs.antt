@@ -4,7 +4,7 @@ use Rattle.private_machine.specs.Backing.{Change, Migrates, Replicates, Collapse
 use Rattle.private_machine.specs.Operation.{Packet, Operation, ReadsBlock, Delivers}
 use Rattle.private_machine.specs.Disk.{no_block}
 use Rattle.isolation_law.specs.GuestState.{GuestState, page, operation_of}
-use Rattle.isolation_law.specs.Coherence.{Sound, Coherent}
+use Rattle.isolation_law.specs.Coherence.{Sound, Consistent}
 use Rattle.isolation_law.specs.PageRules.{Sources, sources, HasBytes, ChangeRule, MoveRule, PageRule, BlockRule, HasBytesOf}
 
 abbrev pub Still : Sources → Sources → Type 0
@@ -29,7 +29,7 @@ move-still from new op shared mapped (Some m) still rule = (rule.0, change-still
 pub rule-still : (from new : Sources) (n : ℕ) (op : Option Operation) (g : Page) → Still from new → PageRule from n op g → PageRule new n op g
 rule-still from new n op g still rule = record { whole = rule.whole; equal = rule.equal; single = rule.single; moves = move-still from new op g.shared g.mapped g.move still rule.moves; sized = rule.sized }
 
-pub coherent_with_sources : (s : GuestState) (new : Sources) → Coherent s → Still (sources s) new
+pub coherent_with_sources : (s : GuestState) (new : Sources) → Consistent s → Still (sources s) new
     → ((b : ℕ) → b < length new.disk → BlockRule (get_or new.disk b no_block))
     → ((x : Packet) → new.hand ≡ Some x → length x.bytes ≤ 4096)
     → Sound new s.operations s.pages s.spares s.processors (map (λ c. c.tlb) s.vcpus) s.seconds s.devices.armed

@@ -1,5 +1,5 @@
 -- A page's master, its replicas and the target of its Replicate lie on different nodes: page by page.
-use Rattle.std.proofs.Common.{◌≡◌, ℕ, ◌==◌, Bool, true, false, if◌then◌else◌, ◌⊎◌, inl, inr, ⊎_elim, Option, Some, None, Result, Ok, Err, List, [], ◌∷◌, ◌++◌, length, map, refl, sym, ap, ◌∙◌, subst, arith, true≢false}
+use Rattle.std.proofs.Common.{◌≡◌, ℕ, ◌==◌, Bool, true, false, if◌then◌else◌, ◌⊎◌, inl, inr, ⊎_elim, Option, Some, None, List, [], ◌∷◌, ◌++◌, length, map, refl, sym, ap, ◌∙◌, subst, arith, true≢false}
 use Rattle.std.proofs.lemmas.Bool.{eq-eqb, eqb-true, or_parts}
 use Rattle.std.proofs.lemmas.List.{append-nil, map-append}
 use Rattle.std.specs.Prelude.{option_map}
@@ -7,7 +7,6 @@ use Rattle.std.specs.List.{list_any}
 use Rattle.base_words.specs.Memory.{with_word}
 use Rattle.base_words.specs.Membership.{Has}
 use Rattle.private_machine.specs.Backing.{node_of_frame, Copy, Change, Migrates, Replicates, Collapses, Breaks, TakesShared, GivesShared, Move, Page, copies, with_bytes, stored_in, stored_through, lies_on}
-use Rattle.private_machine.specs.HardwareStep.{Trap, Done}
 use Rattle.private_machine.specs.Operation.{Packet as InHand, Operation}
 use Rattle.private_machine.specs.PageMove.{acknowledged, left_by, kind_of, begun, finished, taken}
 use Rattle.isolation_law.specs.Causes.{first_cause}
@@ -15,11 +14,10 @@ use Rattle.private_machine.specs.DeviceAct.{Act, StoresTo, ReadsDisk, WritesDisk
 use Rattle.isolation_law.specs.PageRules.{PageRule, ChangeRule, Sources}
 use Rattle.isolation_law.specs.GuestState.{GuestState, page}
 use Rattle.isolation_law.specs.Holdings.{AllDifferent, coming, coming_to, nodes_of}
-use Rattle.isolation_law.specs.MoveRows.{Asks, Fits}
-use Rattle.isolation_law.specs.Needs.{none_of, for_change, needed, of_step, for_packet}
+use Rattle.isolation_law.specs.MoveRows.{Asks, Fits, StepLoses}
+use Rattle.isolation_law.specs.Needs.{none_of, for_change, needed, for_packet}
 use Rattle.isolation_law.specs.Parts.{Wish}
 use Rattle.isolation_law.specs.StepAct.{at_hand}
-use Rattle.isolation_law.specs.Traps.{step_on}
 use Rattle.isolation_law.specs.Surroundings.{Surroundings}
 use Rattle.base_words.specs.declared.moves.By.{By}
 use Rattle.base_words.specs.declared.moves.By.TheVariants.{Plan, Due, Step, Packet}
@@ -116,9 +114,8 @@ step-needed s v shares (SendsPage q length to) r k o needs = grind arith
 step-needed s v shares (WritesEntry index) r k o needs = cc
 step-needed s v shares NoAct r k o needs = cc
 
-lost-needed : (s : GuestState) (step : Result Done Trap) (r : ℕ) (k : MoveKind) (o : Option Operation) → of_step s step ≡ Some (record { page = r; kind = k; operation = o }) → IsNeeded k
-lost-needed s (Ok done) r k o needs = cc
-lost-needed s (Err trap) r k o needs = grind arith
+collapse-needed : (k : MoveKind) → k ≡ Collapse → IsNeeded k
+collapse-needed k is = subst IsNeeded (sym is) tt
 
 packet-needed : (s : GuestState) (shares : Bool) (packet : InHand) (q r : ℕ) (k : MoveKind) (o : Option Operation) → for_packet s shares packet q ≡ Some (record { page = r; kind = k; operation = o }) → IsNeeded k
 packet-needed s shares packet q r k o needs = grind (arith, for_change-needed s q r k o)
@@ -136,7 +133,7 @@ asks-place s (Plan p) wish o asks = cause-fits s p.0 wish asks.1
 asks-place s (Due p) wish o asks = cause-fits s p.0 wish asks.1
 asks-place s (Step p) wish o asks = needed-place s.around (page s wish.page) wish.kind wish.node (⊎_elim
     (step-needed s asks.v asks.shares (at_hand s asks.v) wish.page wish.kind o)
-    (lost-needed s (step_on s p.0 asks.v) wish.page wish.kind o)
+    (λ (lost : StepLoses s p.0 asks.v wish o). collapse-needed wish.kind lost.is_collapse)
     asks.needs)
 asks-place s Packet wish o asks = needed-place s.around (page s wish.page) wish.kind wish.node (packet-needed s asks.shares asks.packet wish.page wish.page wish.kind o asks.needs)
 

@@ -9,7 +9,7 @@ use Rattle.private_machine.specs.DirectAccess.{data_reached}
 use Rattle.private_machine.specs.PageMove.{left_by, named_by, begun, finished, taken}
 use Rattle.isolation_law.proofs.Stepping.{stored, stored_if, accessed, ticked, told, steps-after}
 use Rattle.base_words.specs.declared.trap.DataAccess.TheVariants as at_data
-use Rattle.isolation_law.specs.Coherence.{Coherent}
+use Rattle.isolation_law.specs.Coherence.{Consistent}
 use Rattle.private_machine.specs.DeviceAct.{Act, StoresTo, ReadsDisk, WritesDisk, SendsPage, WritesEntry, NoAct}
 use Rattle.isolation_law.specs.PageRules.{sources}
 use Rattle.isolation_law.specs.Content.{content}
@@ -30,7 +30,9 @@ use Rattle.base_words.specs.declared.events.Event.{Event}
 use Rattle.base_words.specs.declared.events.Event.TheVariants.{Load, Unload, Direct, Refill, Emulate, Begin, Ack, Finish, PacketIn, Discard, Skip, CellFails, End as Ending}
 use Rattle.base_words.specs.declared.moves.MoveKind.{MoveKind}
 use Rattle.isolation_law.proofs.Parts.{at_place}
-use Rattle.isolation_law.proofs.LawProofs.{Kept, step, silent, same_packets}
+use Rattle.isolation_law.proofs.LawProofs.{Kept, step, silent, silent-mirrors, same_packets}
+use Rattle.isolation_law.specs.Mirrors.{Mirrors}
+use Rattle.isolation_law.proofs.MirrorProofs.{row-mirrors}
 use Rattle.isolation_law.proofs.SpreadParts.{Spread, PlaceFits, left-spread, stored-spread, asks-place, begun-spread, taken-spread, finished-spread}
 
 abbrev pub SpreadOver : Surroundings → List Page → Type 0
@@ -77,7 +79,7 @@ act-spreads s p v NoAct old = old
 taken-spreads : (s : GuestState) (q : ℕ) (target : Copy) → Spreads s → SpreadOver s.around (set s.pages q (taken target (page s q)))
 taken-spreads s q target old = spread-page s.around s.pages q (taken target (page s q)) old (λ there was. taken-spread s.around (page s q) target)
 
-finished-spreads : (s : GuestState) (q : ℕ) (m : Move) → Coherent s → (page s q).move ≡ Some m → Spreads s → SpreadOver s.around (set s.pages q (finished m.change (page s q)))
+finished-spreads : (s : GuestState) (q : ℕ) (m : Move) → Consistent s → (page s q).move ≡ Some m → Spreads s → SpreadOver s.around (set s.pages q (finished m.change (page s q)))
 finished-spreads s q m co is old = spread-page s.around s.pages q (finished m.change (page s q)) old
     (λ there was. finished-spread s.around (sources s) (length s.processors) (operation_of s q) (page s q) m (co.by_page q there) is was)
 
@@ -87,7 +89,7 @@ unloads-spreads s p old q lt =
     subst (Spread s.around) (sym (get_or-map (left_by p) s.pages q no_page no_page within)) (left-spread s.around p (page s q) (old q within))
 
 -- each row keeps it; coherence is used where a move is done
-pub row-spreads : (s t : GuestState) (e : Event) → (s.end ≡ None → Coherent s) → Row s e t → Spreads s → Spreads t
+pub row-spreads : (s t : GuestState) (e : Event) → (s.end ≡ None → Consistent s) → Row s e t → Spreads s → Spreads t
 row-spreads s t (Load p v) co row old = subst Spreads (sym row.after) old
 row-spreads s t (Unload p) co row old = subst Spreads (sym row.after) (unloads-spreads s p.0 old)
 row-spreads s t (Direct p v) co row old =
@@ -126,15 +128,16 @@ silent-spreads : (s t : GuestState) → Silent s t → Spreads s → Spreads t
 silent-spreads s t step old = ⊎_elim (λ (e : t ≡ s). subst Spreads (sym e) old) (λ (x : ComesToHand s t). subst Spreads (sym x.after) old) step
 
 -- coherence until the end, by the law
-itself : (s : GuestState) → (s.end ≡ None → Coherent s) → Kept s (content s)
+itself : (s : GuestState) → (s.end ≡ None → Consistent s) → Kept s (content s)
 itself s co = record { coherent = co; same = λ _. refl; console = refl; sent = refl }
 
-pub run-spreads : (s t : GuestState) (journal : List Event) → (s.end ≡ None → Coherent s) → Spreads s → Run s journal t → Spreads t
-run-spreads s t [] co old run = silent-spreads s t run old
-run-spreads s t (e ∷ journal) co old run =
+pub run-spreads : (s t : GuestState) (journal : List Event) → (s.end ≡ None → Consistent s) → Mirrors s → Spreads s → Run s journal t → Spreads t
+run-spreads s t [] co mirrors old run = silent-spreads s t run old
+run-spreads s t (e ∷ journal) co mirrors old run =
     let here = silent s run.0 (content s) (itself s co) run.2 in
-    let next = step run.0 run.1 e run.1.received (content run.0) (same_packets run.1.received run.1.received refl) (itself run.0 here.coherent) run.3 in
-    run-spreads run.1 t journal next.coherent (row-spreads run.0 run.1 e here.coherent run.3 (silent-spreads s run.0 run.2 old)) run.4
+    let before = silent-mirrors s run.0 mirrors run.2 in
+    let next = step run.0 run.1 e run.1.received (content run.0) (same_packets run.1.received run.1.received refl) (itself run.0 here.coherent) before run.3 in
+    run-spreads run.1 t journal next.coherent (row-mirrors run.0 run.1 e before run.3) (row-spreads run.0 run.1 e here.coherent run.3 (silent-spreads s run.0 run.2 old)) run.4
 
 pub start-spreads : (b : Boot) → Spreads (start b)
 start-spreads b = by b.frames b.image.memory

@@ -13,7 +13,7 @@ use Rattle.base_words.specs.Halves.{Half}
 use Rattle.base_words.specs.Membership.{Has}
 use Rattle.private_machine.specs.Backing.{Page, no_page}
 use Rattle.private_machine.specs.SecondLevel.{Second, no_seconds}
-use Rattle.isolation_law.specs.Coherence.{Coherent}
+use Rattle.isolation_law.specs.Coherence.{Consistent}
 use Rattle.isolation_law.specs.PageRules.{needs_spare, BlockRule, PageRule, sources, Sources}
 use Rattle.private_machine.specs.Disk.{block_now}
 use Rattle.isolation_law.specs.Content.{content}
@@ -79,7 +79,7 @@ no-second zero v e has = has
 no-second (suc n) zero e has = none-at 512 e has
 no-second (suc n) (suc v) e has = no-second n v e has
 
-pub start_coherent : (b : Boot) → IsBoot b → Coherent (start b)
+pub start_coherent : (b : Boot) → IsBoot b → Consistent (start b)
 start_coherent b is =
     let s = start b in
     let n = length b.around.processors in

@@ -8,12 +8,14 @@ use Rattle.private_machine.specs.Reaching.{Reached}
 use Rattle.base_words.specs.Instruction.{register, with_register}
 use Rattle.base_words.specs.Merging.{loaded_value, stored_word}
 use Rattle.private_machine.specs.declared.vcpu.Vcpu.{Vcpu}
-use Rattle.private_machine.specs.Vcpu.{no_vcpu, with_registers, with_link, ticking}
+use Rattle.base_words.specs.Coprocessor.{register_at, writes}
+use Rattle.private_machine.specs.RegisterPage.{read_from, block_after}
+use Rattle.private_machine.specs.Vcpu.{no_vcpu, with_registers, with_cp0, with_link, ticking}
 use Rattle.private_machine.specs.Links.{word_offset, is_linked, unlinked, unlinked_others}
 use Rattle.private_machine.specs.Backing.{stored_through}
 use Rattle.private_machine.specs.HardwareStep.{Done, word_through}
 use Rattle.private_machine.specs.DirectAccess.{link_without, line_at, data_reached, data_told, accessed_through, stored_if_linked}
-use Rattle.isolation_law.specs.GuestState.{GuestState, page, vcpu_of, with_vcpu}
+use Rattle.isolation_law.specs.GuestState.{GuestState, page, vcpu_of, block_at, with_vcpu, with_block}
 use Rattle.isolation_law.specs.DirectStep.{with_inputs, held_of, relinked, with_held, ticked_with, data_noted}
 use Rattle.isolation_law.specs.StepRows.{Steps}
 
@@ -22,6 +24,9 @@ regs_left s v regs = with_vcpu s v (with_registers regs (vcpu_of s v))
 
 abbrev pub link_left : GuestState → ℕ → Option ℕ → GuestState
 link_left s v link = with_vcpu s v (with_link link (vcpu_of s v))
+
+abbrev pub cp0_left : GuestState → ℕ → ℕ → ℕ → GuestState
+cp0_left s v number value = with_vcpu s v (with_cp0 (writes (vcpu_of s v).cp0 (register_at number) value) (vcpu_of s v))
 
 abbrev pub stored : GuestState → ℕ → Reached → ℕ → ℕ → GuestState
 stored s v h address word = record s {
@@ -43,8 +48,8 @@ accessed s v h regs (asks.LoadLinked address target) =
     link_left (regs_left s v (with_register regs target (word_through s.pages h address))) v (Some (line_at h address))
 accessed s v h regs (asks.StoreConditional address value target) =
     stored_if (is_linked (vcpu_of s v).link (line_at h address)) s v h regs address value target
-accessed s v h regs (asks.ReadCp0 number target) = regs_left s v regs
-accessed s v h regs (asks.WriteCp0 number value) = regs_left s v regs
+accessed s v h regs (asks.ReadCp0 number target) = regs_left s v (read_from (block_at s v) regs number target)
+accessed s v h regs (asks.WriteCp0 number value) = cp0_left (regs_left s v regs) v number value
 accessed s v h regs (asks.System op) = regs_left s v regs
 
 -- links that are put back
@@ -91,13 +96,20 @@ ticked-link [] v regs line = refl
 ticked-link (c ∷ cs) zero regs line = refl
 ticked-link (c ∷ cs) (suc v) regs line = ap (λ (l : List Vcpu). c ∷ l) (ticked-link cs v regs line)
 
+ticked-cp0 : (cs : List Vcpu) (v : ℕ) (regs : Regs) (number value : ℕ)
+    → set cs v (ticking (let c = get_or cs v no_vcpu in with_cp0 (writes c.cp0 (register_at number) value) (with_registers regs c)))
+    ≡ (let ds = set cs v (with_registers regs (get_or cs v no_vcpu)) in let es = set ds v (with_cp0 (writes (get_or ds v no_vcpu).cp0 (register_at number) value) (get_or ds v no_vcpu)) in set es v (ticking (get_or es v no_vcpu)))
+ticked-cp0 [] v regs number value = refl
+ticked-cp0 (c ∷ cs) zero regs number value = refl
+ticked-cp0 (c ∷ cs) (suc v) regs number value = ap (λ (l : List Vcpu). c ∷ l) (ticked-cp0 cs v regs number value)
+
 abbrev put_back : GuestState → ℕ → Reached → Regs → Request → GuestState
-put_back u v h regs r = let after = accessed_through v h regs r (held_of u) in ticked_with v after.registers (with_held after.held u)
+put_back u v h regs r = let after = accessed_through v (block_at u v) h regs r (held_of u) in ticked_with v after.registers r (with_held after.held u)
 
 abbrev pub ticked : GuestState → ℕ → GuestState
 ticked s v = with_vcpu s v (ticking (vcpu_of s v))
 
-plain : (u : GuestState) (v : ℕ) (regs : Regs) → ticked_with v regs (with_held (held_of u) u) ≡ ticked (regs_left u v regs) v
+plain : (u : GuestState) (v : ℕ) (regs : Regs) → ticked_with v regs asks.Nothing (with_held (held_of u) u) ≡ ticked (regs_left u v regs) v
 plain u v regs = λ i. record u { vcpus = (ap (λ (cs : List Vcpu). set cs v (ticking (with_registers regs (get_or cs v no_vcpu)))) (relinked-same u.vcpus) ∙ ticked-regs u.vcpus v regs) i }
 
 pub put-back : (u : GuestState) (v : ℕ) (h : Reached) (regs : Regs) (r : Request) → put_back u v h regs r ≡ ticked (accessed u v h regs r) v
@@ -110,10 +122,10 @@ put-back u v h regs (asks.LoadLinked address target) =
     let after = with_register regs target (word_through u.pages h address) in
     λ i. record u { vcpus = (ap (λ (cs : List Vcpu). set cs v (ticking (with_registers after (get_or cs v no_vcpu)))) (relinked-one u.vcpus v (Some (line_at h address))) ∙ ticked-link u.vcpus v after (Some (line_at h address))) i }
 put-back u v h regs (asks.StoreConditional address value target) =
-    ap (λ (o : Option ℕ). (let after = stored_if_linked (is_linked o (line_at h address)) v h regs address value target (held_of u) in ticked_with v after.registers (with_held after.held u))) (link-at u.vcpus v)
+    ap (λ (o : Option ℕ). (let after = stored_if_linked (is_linked o (line_at h address)) v h regs address value target (held_of u) in ticked_with v after.registers asks.Nothing (with_held after.held u))) (link-at u.vcpus v)
     ∙ by (is_linked (vcpu_of u v).link (line_at h address))
   where
-    by : (b : Bool) → (let after = stored_if_linked b v h regs address value target (held_of u) in ticked_with v after.registers (with_held after.held u)) ≡ ticked (stored_if b u v h regs address value target) v
+    by : (b : Bool) → (let after = stored_if_linked b v h regs address value target (held_of u) in ticked_with v after.registers asks.Nothing (with_held after.held u)) ≡ ticked (stored_if b u v h regs address value target) v
     by true =
         let s = stored u v h address value in
         let after = with_register regs target 1 in
@@ -121,8 +133,9 @@ put-back u v h regs (asks.StoreConditional address value target) =
     by false =
         let after = with_register regs target 0 in
         λ i. record u { vcpus = (ap (λ (cs : List Vcpu). set cs v (ticking (with_registers after (get_or cs v no_vcpu)))) (relinked-one u.vcpus v None) ∙ ticked-link u.vcpus v after None) i }
-put-back u v h regs (asks.ReadCp0 number target) = plain u v regs
-put-back u v h regs (asks.WriteCp0 number value) = plain u v regs
+put-back u v h regs (asks.ReadCp0 number target) = plain u v (read_from (block_at u v) regs number target)
+put-back u v h regs (asks.WriteCp0 number value) =
+    λ i. record u { vcpus = (ap (λ (cs : List Vcpu). set cs v (ticking (let c = get_or cs v no_vcpu in with_cp0 (writes c.cp0 (register_at number) value) (with_registers regs c)))) (relinked-same u.vcpus) ∙ ticked-cp0 u.vcpus v regs number value) i }
 put-back u v h regs (asks.System op) = plain u v regs
 
 -- what is told of a step's data access
@@ -131,6 +144,6 @@ told s v d = data_told v (data_reached d) d.does.request (held_of (with_inputs s
 
 -- a step, part by part
 pub steps-after : (s t : GuestState) (p v : ℕ) → (row : Steps s p v t)
-    → t ≡ data_noted p (told s v row.done) (ticked (accessed (with_inputs s v) v (data_reached row.done) row.done.does.registers row.done.does.request) v)
+    → t ≡ with_block v (block_after row.done.does.request (block_at s v)) (data_noted p (told s v row.done) (ticked (accessed (with_inputs s v) v (data_reached row.done) row.done.does.registers row.done.does.request) v))
 steps-after s t p v row = let d = row.done in
-    row.after ∙ ap (data_noted p (told s v d)) (put-back (with_inputs s v) v (data_reached d) d.does.registers d.does.request)
+    row.after ∙ ap (λ (x : GuestState). with_block v (block_after d.does.request (block_at s v)) (data_noted p (told s v d) x)) (put-back (with_inputs s v) v (data_reached d) d.does.registers d.does.request)

@@ -25,7 +25,8 @@ use Rattle.private_machine.specs.DeviceRegisters.{register_read, register_taken}
 use Rattle.private_machine.specs.Devices.{disk_status, commanded, transferred, sending, device_taken, device_done, disk_read, may_send, with_sent, disk_written}
 use Rattle.private_machine.specs.Links.{unlinked, unlinked_page, unlinked_others, written, page_filled, page_bytes, word_around, is_linked, line_of}
 use Rattle.private_machine.specs.OwnStep.{led, answered, fetched, usable, executed, decided, attempted, settled, acted, own_step, joined, is_usable}
-use Rattle.private_machine.specs.PrivateMachine.{PrivateMachine, vcpu, with_devices, left, on_vcpu, input_waits}
+use Rattle.private_machine.specs.PrivateMachine.{PrivateMachine, vcpu, with_devices, left, on_vcpu, input_waits, is_open}
+use Rattle.private_machine.specs.RegisterPage.{redirected}
 use Rattle.private_machine.specs.Signals.{called}
 use Rattle.private_machine.specs.Vcpu.{no_vcpu, with_registers, with_cp0, with_link, with_line_on, held_entry, system_done, raising, ticking, halting}
 use Rattle.private_machine.specs.declared.vcpu.Vcpu.{Vcpu}
@@ -278,7 +279,7 @@ request-after m v regs (asks.System op) = system-after m v regs op
 
 executed-after : (m : PrivateMachine) (v : ℕ) (does : Result Effect Exception) → Left m v (act_executed m v does) (settled m v (executed m v does))
 executed-after m v (Err x) = raised-after m v x
-executed-after m v (Ok does) = request-after m v does.registers does.request
+executed-after m v (Ok does) = request-after m v does.registers (redirected (is_open m v) does.request)
 
 decided-after : (m : PrivateMachine) (v : ℕ) (word : Result ℕ Exception) → Left m v (act_decided m v word) (settled m v (decided m v word))
 decided-after m v (Err x) = raised-after m v x

@@ -22,14 +22,14 @@ use Rattle.base_words.specs.Halves.{Half, is_of}
 use Rattle.base_words.specs.Instruction.{Effect, effect}
 use Rattle.base_words.specs.declared.device.Transfer.{Transfer}
 use Rattle.private_machine.specs.DevicePage.{transfer_of}
-use Rattle.private_machine.specs.Reaching.{NoHalf, Wanted, Sight, through_half, in_segment, reached, wanted, fetch_at, Lack, NoRange, DeadFrame, NoStore, Reached, at_half}
-use Rattle.private_machine.specs.HardwareStep.{Trap, Line, Privileged, word_through, with_data, accesses, executes, fetches, hardware_step, data_trap, fetch_trap, decodes}
+use Rattle.private_machine.specs.Reaching.{NoHalf, Wanted, Sight, through_half, in_segment, reached, wanted, fetch_at, Lack, NoRange, DeadFrame, NoStore, Reached, at_half, is_open_to}
+use Rattle.private_machine.specs.HardwareStep.{Trap, Line, Privileged, word_through, with_data, accesses, executes, fetches, hardware_step, data_trap, fetch_trap, decodes, asks_of}
 use Rattle.private_machine.specs.Links.{word_offset}
 use Rattle.private_machine.specs.OwnStep.{input_joined, joined, led, word_of, fetched, is_privileged, usable}
-use Rattle.private_machine.specs.PrivateMachine.{PrivateMachine, vcpu}
+use Rattle.private_machine.specs.PrivateMachine.{PrivateMachine, vcpu, is_open}
 use Rattle.private_machine.specs.Vcpu.{no_vcpu, space_of, with_line_on}
 use Rattle.private_machine.specs.declared.vcpu.Vcpu.{Vcpu}
-use Rattle.isolation_law.specs.Coherence.{Coherent}
+use Rattle.isolation_law.specs.Coherence.{Consistent}
 use Rattle.isolation_law.specs.Content.{content}
 use Rattle.isolation_law.specs.DirectStep.{with_inputs, sight}
 use Rattle.isolation_law.specs.GuestState.{GuestState, vcpu_of}
@@ -42,6 +42,7 @@ use Rattle.isolation_law.specs.Traps.{is_granted}
 use Rattle.base_words.specs.declared.effect.Request.{Request}
 use Rattle.base_words.specs.declared.effect.Request.TheVariants as asks
 use Rattle.isolation_law.proofs.DirectProofs.{reached-ok, word-through}
+use Rattle.isolation_law.proofs.PageProofs.{store-same, plain-wanted}
 use Rattle.isolation_law.proofs.DirectContent.{content-inputs, led-through}
 use Rattle.isolation_law.proofs.RefillProofs.{leads-fits}
 use Rattle.std.specs.Prelude.{find}
@@ -56,7 +57,7 @@ through-err x w lack (Some h) e out = by (x.lost h.frame) (is_store w.purpose &&
     by false true e = cc
     by false false e = cc
 
-reached-err : (x : Sight) (w : Wanted) (lack : Lack) → (w.address % w.unit == 0) ≡ true → segment x.user w.address ≢ Outside → reached x w ≡ Err lack → lack ≢ NoRange
+pub reached-err : (x : Sight) (w : Wanted) (lack : Lack) → (w.address % w.unit == 0) ≡ true → segment x.user w.address ≢ Outside → reached x w ≡ Err lack → lack ≢ NoRange
 reached-err x w lack fits inside e = aligned (w.address % w.unit == 0) fits e
   where
     ranges : (g : Segment) → segment x.user w.address ≡ g → in_segment x w g ≡ Err lack → lack ≢ NoRange
@@ -68,7 +69,7 @@ reached-err x w lack fits inside e = aligned (w.address % w.unit == 0) fits e
     aligned true so e = ranges (segment x.user w.address) refl e
     aligned false so e = cc
 
-fetch-for : (w : Wanted) (lack : Lack) → lack ≢ NoRange → trapped_access (fetch_trap w lack) ≡ Some w
+pub fetch-for : (w : Wanted) (lack : Lack) → lack ≢ NoRange → trapped_access (fetch_trap w lack) ≡ Some w
 fetch-for w NoRange out = absurd (out refl)
 fetch-for w NoHalf out = refl
 fetch-for w (DeadFrame there) out = refl
@@ -97,7 +98,7 @@ system-none : (m : PrivateMachine) (v q : ℕ) (op : Cp0Op) → system_act m v o
 system-none m v q op e = grind arith
 
 -- a word of coprocessor 0 asks for nothing of memory
-abbrev OfSystem : Request → Type 0
+abbrev pub OfSystem : Request → Type 0
 OfSystem (asks.ReadCp0 number target) = Unit {0}
 OfSystem (asks.WriteCp0 number value) = Unit {0}
 OfSystem (asks.System op) = Unit {0}
@@ -116,7 +117,7 @@ cp0-system w = grind arith
 effect-system : (i : Instr) (regs : Regs) (does : Effect) → IsSystem i → effect i regs ≡ Ok does → OfSystem does.request
 effect-system i regs does system e = grind arith
 
-privileged-asks : (w : ℕ) (regs : Regs) (does : Effect) → is_privileged w ≡ true → effect (decoded w) regs ≡ Ok does → OfSystem does.request
+pub privileged-asks : (w : ℕ) (regs : Regs) (does : Effect) → is_privileged w ≡ true → effect (decoded w) regs ≡ Ok does → OfSystem does.request
 privileged-asks w regs does so e =
     effect-system (decoded w) regs does
     (subst (λ (n : ℕ). IsSystem (instruction_at (get_or primary_map n primary.Reserved) w)) (sym (eqb-true (opcode w) 16 so)) (cp0-system w))
@@ -138,9 +139,9 @@ privileged-none m v q w regs true so e = by (effect (decoded w) regs) refl e
   where
     by : (r : Result Effect Exception) → effect (decoded w) regs ≡ r → act_executed m v r ≡ StoresTo q → ⊥
     by (Err x) is e = cc
-    by (Ok does) is e = asked-none m v q does.request (privileged-asks w regs does so is) e
+    by (Ok does) is e = asked-none m v q does.request (privileged-asks w regs does so is) (ap (act_of m v) (sym (store-same m v q (is_open m v) does.request e)) ∙ e)
 
-pub emulated-no-store : (s : GuestState) (p v : ℕ) → Coherent s → IsEmulated s p v → (q : ℕ) → at_hand s v ≢ StoresTo q
+pub emulated-no-store : (s : GuestState) (p v : ℕ) → Consistent s → IsEmulated s p v → (q : ℕ) → at_hand s v ≢ StoresTo q
 emulated-no-store s p v co row q is = line x.line refl traps (ap (λ (z : PrivateMachine). act_next z v) (content-inputs s v) ∙ is)
   where
     u : GuestState
@@ -203,9 +204,15 @@ emulated-no-store s p v co row q is = line x.line refl traps (ap (λ (z : Privat
     request word h does (asks.WriteCp0 number value) e at = cc
     request word h does (asks.System op) e at = system-none m v q op at
 
+    asked : (word : ℕ) (h : Reached) (does : Effect) (o : Option Wanted) → wanted (asks_of x does).request ≡ o → accesses x word h (asks_of x does) o ≡ Err trap → act_of m v does.request ≡ StoresTo q → ⊥
+    asked word h does None is e at = cc
+    asked word h does (Some w) is e at = request word h (asks_of x does) does.request (ap (accesses x word h (asks_of x does)) (plain-wanted (is_open_to x) does.request w is) ∙ e) at
+
     does_it : (word : ℕ) (h : Reached) (r : Result Effect Exception) → executes x word h r ≡ Err trap → act_executed m v r ≡ StoresTo q → ⊥
     does_it word h (Err y) e at = cc
-    does_it word h (Ok does) e at = request word h does does.request e at
+    does_it word h (Ok does) e at =
+        let plainly = store-same m v q (is_open m v) does.request at in
+        asked word h does (wanted (asks_of x does).request) refl e (ap (act_of m v) (sym plainly) ∙ at)
 
     word : (h : Reached) (w : ℕ) (b : Bool) → is_privileged w ≡ b → (if b then Err (Privileged w) else executes x w h (effect (decoded w) regs)) ≡ Err trap
         → act_executed m v (usable (not (b && in_user_mode (vcpu m v).cp0.status)) (effect (decoded w) regs)) ≡ StoresTo q → ⊥

@@ -10,11 +10,11 @@ use Rattle.private_machine.specs.Links.{word_offset}
 use Rattle.private_machine.specs.PrivateMachine.{PrivateMachine}
 use Rattle.private_machine.specs.OwnStep.{fetched, joined, word_of, is_privileged}
 use Rattle.private_machine.specs.Reaching.{Wanted, Lack, NoRange, NoHalf, DeadFrame, NoStore, Sight, Reached, at_half, wanted, fetch_at, reached}
-use Rattle.private_machine.specs.HardwareStep.{Trap, Line, Privileged, Raised, Done, cause_of, fetch_trap, data_trap, with_data, accesses, executes, decodes, fetches, word_through}
+use Rattle.private_machine.specs.HardwareStep.{Trap, Line, Privileged, Raised, Done, cause_of, fetch_trap, data_trap, with_data, asks_of, accesses, executes, decodes, fetches, word_through}
 use Rattle.private_machine.specs.TrapAccess.{HoldsWord}
 use Rattle.isolation_law.specs.GuestState.{GuestState, processor, vcpu_of}
 use Rattle.isolation_law.specs.Content.{content}
-use Rattle.isolation_law.specs.Coherence.{Coherent}
+use Rattle.isolation_law.specs.Coherence.{Consistent}
 use Rattle.isolation_law.specs.DirectStep.{with_inputs, sight}
 use Rattle.isolation_law.specs.Traps.{step_on}
 use Rattle.base_words.specs.Halves.{Half}
@@ -37,7 +37,7 @@ data-holds m v word w (DeadFrame there) is = tt
 data-holds m v word w NoStore is = is
 
 -- the word that a processor fetches through its TLB is the one at the program counter
-pub fetched-through : (s : GuestState) (p v : ℕ) (h : Half) → Coherent s → (processor s p).loaded ≡ Some v
+pub fetched-through : (s : GuestState) (p v : ℕ) (h : Half) → Consistent s → (processor s p).loaded ≡ Some v
     → ByHalf (sight (with_inputs s v) p v) (fetch_at (vcpu_of (with_inputs s v) v).registers.pc) h
     → fetched (content (with_inputs s v)) v ≡ Ok (word_through s.pages (at_half h) (vcpu_of (with_inputs s v) v).registers.pc)
 fetched-through s p v h co runs by_half =
@@ -50,7 +50,7 @@ fetched-through s p v h co runs by_half =
     ∙ (λ i. Ok (word_at m.memory (at i)))
     ∙ (λ i. Ok (word-through s p h pc co by_half.has i))
 
-pub holds-word : (s : GuestState) (p v : ℕ) (trap : Trap) → Coherent s → (processor s p).loaded ≡ Some v → step_on s p v ≡ Err trap → HoldsWord (joined (content s) v) v (cause_of trap)
+pub holds-word : (s : GuestState) (p v : ℕ) (trap : Trap) → Consistent s → (processor s p).loaded ≡ Some v → step_on s p v ≡ Err trap → HoldsWord (joined (content s) v) v (cause_of trap)
 holds-word s p v trap co runs e = subst (λ (z : PrivateMachine). HoldsWord z v (cause_of trap)) (content-inputs s v) (line x.line e)
   where
     u : GuestState
@@ -78,7 +78,7 @@ holds-word s p v trap co runs e = subst (λ (z : PrivateMachine). HoldsWord z v 
 
     does-it : (word : ℕ) (at : Reached) (r : Result Effect Exception) → fetched m v ≡ Ok word → is_privileged word ≡ false → effect (decoded word) regs ≡ r → executes x word at r ≡ Err trap → HoldsWord m v (cause_of trap)
     does-it word at (Err y) is free does e = is-it (Raised y) e (record { word = word; is_there = is; unprivileged = free; raises = does })
-    does-it word at (Ok does) is free it e = asks word at does (wanted does.request) is e
+    does-it word at (Ok does) is free it e = asks word at (asks_of x does) (wanted (asks_of x does).request) is e
 
     decides : (word : ℕ) (at : Reached) (b : Bool) → fetched m v ≡ Ok word → is_privileged word ≡ b → (if b then Err (Privileged word) else executes x word at (effect (decoded word) regs)) ≡ Err trap → HoldsWord m v (cause_of trap)
     decides word at true is it e = is-it (Privileged word) e is

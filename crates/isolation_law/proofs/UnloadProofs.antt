@@ -7,7 +7,7 @@ use Rattle.base_words.specs.Halves.{Half}
 use Rattle.base_words.specs.Membership.{Has}
 use Rattle.private_machine.specs.Backing.{Page, no_page}
 use Rattle.private_machine.specs.PageMove.{acknowledged, left_by}
-use Rattle.isolation_law.specs.Coherence.{HalfOnPage, IsDenied, tlb_of, Coherent}
+use Rattle.isolation_law.specs.Coherence.{HalfOnPage, IsDenied, tlb_of, Consistent}
 use Rattle.isolation_law.specs.PageRules.{PageRule, needs_spare, sources}
 use Rattle.isolation_law.specs.Content.{content}
 use Rattle.isolation_law.specs.GuestState.{GuestState, idle, page, with_processor, operation_of}
@@ -34,14 +34,14 @@ left_page s p q = at s.pages q
     at (g ∷ gs) zero = refl
     at (g ∷ gs) (suc q) = at gs q
 
-pub unloads_keeps : (s t : GuestState) (p : ℕ) → Coherent s → Unloads s p t → Coherent t
+pub unloads_keeps : (s t : GuestState) (p : ℕ) → Consistent s → Unloads s p t → Consistent t
 unloads_keeps s t p co row =
     let s1 = with_processor s p idle in
-    let co1 : Coherent s1 = coherent_with_processor s p idle co (λ h has. absurd has) (λ v h has is. absurd has) (λ v h has is off. absurd has) (λ none. refl) (λ v r is other. cc) in
+    let co1 : Consistent s1 = coherent_with_processor s p idle co (λ h has. absurd has) (λ v h has is. absurd has) (λ v h has is off. absurd has) (λ none. refl) (λ v r is other. cc) in
     let pages = map (left_by p) s.pages in
     let tlbs = map (λ c. c.tlb) s.vcpus in
     let long : length pages ≡ length s.pages = length-map s.pages (left_by p) in
-    let made : Coherent (record s1 { pages = pages }) = record {
+    let made : Consistent (record s1 { pages = pages }) = record {
       by_page = λ q below. subst (PageRule (sources s) (length s1.processors) (operation_of s q)) (sym (left_page s p q)) (left_rule (sources s) (length s1.processors) p (operation_of s q) (page s q) (co1.by_page q (subst (λ (n : ℕ). q < n) long below)));
       as_many = co.as_many ∙ sym long;
       within = λ r h has. rw long (co1.within r h has);
@@ -57,7 +57,7 @@ unloads_keeps s t p co row =
       armed_page = λ q armed. rw long (co.armed_page q armed);
       packet = co.packet;
     } in
-    subst Coherent (sym row.after) made
+    subst Consistent (sym row.after) made
   where
     apart : (r : ℕ) (h : Half) → Has (get_or (set s.processors p idle) r idle).tlb h → r ≢ p
     apart r h has e = ⊎_elim

@@ -1,20 +1,18 @@
 -- Two worlds, and one virtual processor.
-use Rattle.std.proofs.Common.{◌≡◌, ℕ, zero, suc, ◌+◌, false, ⊎_elim, List, [], ◌∷◌, ◌++◌, length, map, get_or, replicate, refl, sym, ap, ◌∙◌, subst, arith, length-set}
-use Rattle.std.proofs.lemmas.List.{length-map, length-append}
+use Rattle.std.proofs.Common.{◌≡◌, ℕ, zero, suc, ◌+◌, false, ⊎_elim, List, [], ◌∷◌, ◌++◌, length, get_or, replicate, refl, sym, ap, ◌∙◌, subst, arith}
+use Rattle.std.proofs.lemmas.List.{length-append}
 use Rattle.std.proofs.lemmas.List.{length-replicate}
 use Rattle.base_words.specs.declared.events.Event.{Event}
 use Rattle.base_words.specs.declared.events.Event.TheVariants.{Load, Unload, Direct, Refill, Emulate, Begin, Ack, Finish, PacketIn, Discard, Skip, CellFails, End as Ending}
 use Rattle.base_words.specs.declared.events.OwnEvent.{OwnEvent}
 use Rattle.base_words.specs.declared.events.OwnEvent.TheVariants as seen
 use Rattle.base_words.specs.declared.ids.VcpuId.{VcpuId}
-use Rattle.base_words.specs.declared.tlb.Entry.{Entry}
 use Rattle.base_words.specs.declared.trap.DataAccess.{DataAccess}
 use Rattle.base_words.specs.declared.trap.DataAccess.TheVariants as at_data
 use Rattle.private_machine.specs.declared.vcpu.Vcpu.{Vcpu}
 use Rattle.private_machine.specs.Vcpu.{no_vcpu, ticking}
 use Rattle.private_machine.specs.Operation.{Packet}
 use Rattle.private_machine.specs.DirectAccess.{data_reached}
-use Rattle.private_machine.specs.OwnStep.{own_step, joined}
 use Rattle.private_machine.specs.PrivateMachine.{PrivateMachine}
 use Rattle.private_machine.specs.PrivateRun.{booted, private_run}
 use Rattle.isolation_law.specs.GuestState.{GuestState, vcpu_of}
@@ -28,8 +26,6 @@ use Rattle.isolation_law.specs.OwnHistory.{own, own_steps}
 use Rattle.isolation_law.specs.PacketRows.{ComesToHand, Receives, EndsDelivery}
 use Rattle.isolation_law.specs.Run.{Silent, Run}
 use Rattle.isolation_law.specs.Start.{Boot, private_start, start}
-use Rattle.isolation_law.specs.StepAct.{at_hand}
-use Rattle.private_machine.specs.DeviceAct.{Act, StoresTo, ReadsDisk, WritesDisk, SendsPage, WritesEntry, NoAct}
 use Rattle.isolation_law.specs.StepRows.{Emulates, EndsRead}
 use Rattle.isolation_law.specs.Worlds.{SameGuest, SameOutput}
 use Rattle.isolation_law.proofs.DirectContent.{tlbs-joined}
@@ -37,10 +33,11 @@ use Rattle.isolation_law.proofs.LawProofs.{Extends, run_packets}
 use Rattle.isolation_law.proofs.PacketProofs.{packet-tlbs}
 use Rattle.isolation_law.proofs.Stepping.{accessed, ticked, told, steps-after}
 use Rattle.isolation_law.proofs.StepKeeps.{accessed-tlbs}
-use Rattle.isolation_law.proofs.TlbEffects.{tlbs, Left, same-tlbs, step-left}
+use Rattle.isolation_law.proofs.TlbEffects.{same-tlbs}
+use Rattle.isolation_law.proofs.VcpuCounts.{by-tlbs, own-count}
 
 same-start : (b c : Boot) → SameGuest b c → private_start b ≡ private_start c
-same-start b c same = λ i. booted (same.image i) (same.vcpus i) (same.disk i) (same.input i)
+same-start b c same = λ i. booted (same.image i) (same.vcpus i) (same.profile i) (same.disk i) (same.input i)
 
 pub two-worlds : (b c : Boot) (j k : List Event) (t u : GuestState) → Isolated b j t → Isolated c k u → SameGuest b c → own t.received j ≡ own u.received k → SameOutput t u
 two-worlds b c j k t u here there same equal =
@@ -50,29 +47,10 @@ two-worlds b c j k t u here there same equal =
       sent = here.sent ∙ ap (λ (m : PrivateMachine). m.devices.sent) machines ∙ sym there.sent;
     }
 
--- how many virtual processors there are
-by-tlbs : (cs ds : List Vcpu) → map (λ c. c.tlb) cs ≡ map (λ c. c.tlb) ds → length cs ≡ length ds
-by-tlbs cs ds same = sym (length-map cs (λ c. c.tlb)) ∙ ap length same ∙ length-map ds (λ c. c.tlb)
-
 noted-vcpus : (p : ℕ) (a : DataAccess) (s : GuestState) → (data_noted p a s).vcpus ≡ s.vcpus
 noted-vcpus p at_data.NoData s = refl
 noted-vcpus p (at_data.Load page frame) s = refl
 noted-vcpus p (at_data.Store page frame) s = refl
-
-left-count : (m n : PrivateMachine) (v : ℕ) (act : Act) → Left m v act n → length (tlbs n) ≡ length (tlbs m)
-left-count m n v (StoresTo q) left = ap length left.tlbs_same
-left-count m n v (ReadsDisk b q) left = ap length left.tlbs_same
-left-count m n v (WritesDisk b q) left = ap length left.tlbs_same
-left-count m n v (SendsPage q length to) left = ap (λ (l : List (List Entry)). Rattle.std.specs.Prelude.length l) left.tlbs_same
-left-count m n v (WritesEntry index) left = ap length left.tlbs_other ∙ length-set (tlbs m) v _
-left-count m n v NoAct left = ap length left.tlbs_same
-
-own-count : (s : GuestState) (v : ℕ) → (vcpu_of s v).halted ≡ false → length (own_step (content s) v).vcpus ≡ length s.vcpus
-own-count s v running =
-    sym (length-map (own_step (content s) v).vcpus (λ c. c.tlb))
-    ∙ left-count (joined (content s) v) (own_step (content s) v) v (at_hand s v) (step-left (content s) v running)
-    ∙ ap length (tlbs-joined (content s) v)
-    ∙ length-map s.vcpus (λ c. c.tlb)
 
 pub row-count : (s t : GuestState) (e : Event) → Row s e t → length t.vcpus ≡ length s.vcpus
 row-count s t (Load p v) row = ap (λ (x : GuestState). length x.vcpus) row.after

@@ -11,7 +11,7 @@ use Rattle.isolation_law.specs.GuestState.{GuestState}
 abbrev pub held : GuestState → List Copy
 held s = held_in s.pages s.spares
 
--- the frames by which a guest uses a cell: those of its pages, and the spares
+-- the frames by which a guest uses a cell: the masters of its pages, the targets of their moves, and the spares
 abbrev pub used_frames : GuestState → List Copy
 used_frames s = flat_map used_for s.pages ++ s.spares
 

@@ -15,6 +15,7 @@ use Rattle.private_machine.specs.SecondLevel.{Second}
 use Rattle.isolation_law.specs.Parts.{Processor}
 use Rattle.private_machine.specs.Disk.{no_block}
 use Rattle.isolation_law.specs.GuestState.{GuestState, idle}
+use Rattle.isolation_law.specs.Mirrors.{Mirrors}
 use Rattle.private_machine.specs.Everywhere.{is_everywhere}
 
 -- a half of a processor against its page
@@ -64,5 +65,10 @@ pub record Sound (from : Sources) (operations : List (Option Operation)) (pages 
   pub armed_page : (q : ℕ) → armed ≡ Some q → q < length pages
   pub packet : (x : Packet) → from.hand ≡ Some x → length x.bytes ≤ 4096
 
-abbrev pub Coherent : GuestState → Type 0
-Coherent s = Sound (sources s) s.operations s.pages s.spares s.processors (map (λ c. c.tlb) s.vcpus) s.seconds s.devices.armed
+abbrev pub Consistent : GuestState → Type 0
+Consistent s = Sound (sources s) s.operations s.pages s.spares s.processors (map (λ c. c.tlb) s.vcpus) s.seconds s.devices.armed
+
+-- the same, and the register pages show what the registers read
+pub record Coherent (s : GuestState) : Type 0 where
+  pub consistent : Consistent s
+  pub mirrors : Mirrors s

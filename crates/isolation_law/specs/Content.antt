@@ -2,6 +2,7 @@
 use Rattle.std.specs.Prelude.{map, flat_map, length}
 use Rattle.private_machine.specs.PrivateMachine.{PrivateMachine}
 use Rattle.private_machine.specs.Disk.{block_now}
+use Rattle.private_machine.specs.RegisterPage.{has_page}
 use Rattle.isolation_law.specs.GuestState.{GuestState}
 
 -- a page's content is its master's bytes
@@ -12,6 +13,7 @@ content s = record {
   vcpus = s.vcpus;
   devices = s.devices;
   disk = map block_now s.disk;
+  register_page = has_page s.around.profile;
 }
 
 -- what the guest sees of its virtual processors and devices becomes this machine's

@@ -1,18 +1,20 @@
 -- What a step through the TLB leaves of a guest.
 use Rattle.std.specs.Prelude.{ℕ, ◌==◌, not, if◌then◌else◌, Bool, true, false, List, [], ◌∷◌, Option, None, map, slice_index_or, slice_set}
 use Rattle.base_words.specs.declared.regs.Regs.{Regs}
+use Rattle.base_words.specs.declared.effect.Request.{Request}
 use Rattle.base_words.specs.declared.trap.DataAccess.{DataAccess}
 use Rattle.base_words.specs.declared.trap.DataAccess.TheVariants as at_data
 use Rattle.base_words.specs.Coprocessor.{interrupts, in_user_mode}
 use Rattle.private_machine.specs.declared.vcpu.Vcpu.{Vcpu}
-use Rattle.private_machine.specs.Vcpu.{with_registers, with_link, ticking}
+use Rattle.private_machine.specs.Vcpu.{with_registers, with_cp0, with_link, ticking}
+use Rattle.private_machine.specs.RegisterPage.{registers_after}
 use Rattle.private_machine.specs.OwnStep.{joined}
 use Rattle.private_machine.specs.Backing.{Held, node_of_frame}
 use Rattle.private_machine.specs.Reaching.{Sight}
 use Rattle.private_machine.specs.HardwareStep.{Done}
 use Rattle.private_machine.specs.DirectAccess.{data_reached, stepped_through, data_told}
 use Rattle.isolation_law.specs.Surroundings.{Surroundings, cell_of_frame, node_of_processor}
-use Rattle.isolation_law.specs.GuestState.{GuestState, processor, vcpu_of, with_vcpu, due_on, misses_of, with_misses}
+use Rattle.isolation_law.specs.GuestState.{GuestState, processor, vcpu_of, block_at, with_vcpu, with_block, due_on, misses_of, with_misses}
 use Rattle.isolation_law.specs.Content.{content, with_own}
 use Rattle.private_machine.specs.Policy.{Misses, noted}
 use Rattle.isolation_law.specs.Policy.{chosen, due_after}
@@ -29,6 +31,7 @@ lost_frames w dead frame = slice_index_or dead (cell_of_frame w frame) false
 abbrev pub sight : GuestState → ℕ → ℕ → Sight
 sight s p v =
     let c = vcpu_of s v in record {
+      block = block_at s v;
       user = in_user_mode c.cp0.status;
       asid = c.cp0.entry_hi.asid;
       line = interrupts c.cp0;
@@ -48,9 +51,11 @@ relinked (link ∷ links) (c ∷ cs) = with_link link c ∷ relinked links cs
 abbrev pub with_held : Held → GuestState → GuestState
 with_held h s = record s { pages = h.pages; vcpus = relinked h.links s.vcpus }
 
--- a virtual processor has these registers, and its step is over
-abbrev pub ticked_with : ℕ → Regs → GuestState → GuestState
-ticked_with v regs s = with_vcpu s v (ticking (with_registers regs (vcpu_of s v)))
+-- a virtual processor has these registers, a register of coprocessor 0 that was written on the register page takes its word, and the
+-- step is over
+abbrev pub ticked_with : ℕ → Regs → Request → GuestState → GuestState
+ticked_with v regs request s =
+    let c = vcpu_of s v in with_vcpu s v (ticking (with_cp0 (registers_after request c.cp0) (with_registers regs c)))
 
 -- an access of a processor to a frame of a page is noted: the miss and the mark, and then the choice
 abbrev pub is_miss : GuestState → ℕ → ℕ → Bool
@@ -70,9 +75,9 @@ data_noted p at_data.NoData s = s
 data_noted p (at_data.Load page frame) s = access_noted p page.0 frame.0 false s
 data_noted p (at_data.Store page frame) s = access_noted p page.0 frame.0 true s
 
--- the step: what its access leaves is put back, the step is counted, and its data access is noted
+-- the step: what its access leaves is put back, with the register page, the step is counted, and its data access is noted
 abbrev pub direct : GuestState → ℕ → ℕ → Done → GuestState
 direct s p v d =
     let u = with_inputs s v in
-    let after = stepped_through v (held_of u) d in
-    data_noted p (data_told v (data_reached d) d.does.request (held_of u)) (ticked_with v after.registers (with_held after.held u))
+    let after = stepped_through v (block_at u v) (held_of u) d in
+    with_block v after.block (data_noted p (data_told v (data_reached d) d.does.request (held_of u)) (ticked_with v after.registers d.does.request (with_held after.held u)))

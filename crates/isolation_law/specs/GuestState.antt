@@ -4,6 +4,7 @@ use Rattle.base_words.specs.declared.events.End.{End}
 use Rattle.base_words.specs.Halves.{Half}
 use Rattle.private_machine.specs.declared.vcpu.Vcpu.{Vcpu}
 use Rattle.private_machine.specs.Vcpu.{no_vcpu}
+use Rattle.private_machine.specs.declared.register_page.RegBlock.{RegBlock}
 use Rattle.private_machine.specs.DevicePage.{DevicePage}
 use Rattle.private_machine.specs.Backing.{Copy, Page, page_at}
 use Rattle.private_machine.specs.Operation.{Packet, Operation}
@@ -13,13 +14,14 @@ use Rattle.isolation_law.specs.Surroundings.{Surroundings}
 use Rattle.private_machine.specs.Disk.{Block, no_block}
 use Rattle.isolation_law.specs.Parts.{Processor, Wish, SkipEntry}
 
--- `sent_from` has the cell of each packet of the sent list, `operations` for each page what it is being taken shared for, `misses`
+-- `blocks` has the register page of each virtual processor, in a guest that has it, `sent_from` the cell of each packet of the sent list, `operations` for each page what it is being taken shared for, `misses`
 -- a record for each page, and `due` for each processor the
 -- policy's choice that it has still to ask for. `closing` is the end that has to follow, but for that of a guest whose virtual
 -- processors have all halted.
 pub record GuestState : Type 0 where
   pub around : Surroundings
   pub vcpus : List Vcpu
+  pub blocks : List (Option RegBlock)
   pub devices : DevicePage
   pub disk : List Block
   pub sent_from : List ℕ
@@ -69,6 +71,9 @@ is_dead s cell = slice_index_or s.dead cell false
 abbrev pub vcpu_of : GuestState → ℕ → Vcpu
 vcpu_of s v = slice_index_or s.vcpus v no_vcpu
 
+abbrev pub block_at : GuestState → ℕ → Option RegBlock
+block_at s v = slice_index_or s.blocks v None
+
 -- the place of the packet in hand, or of the next, among all that came to hand
 abbrev pub hand_place : GuestState → ℕ
 hand_place s = length s.received + length s.discarded
@@ -91,6 +96,9 @@ with_tlb s p new = with_processor s p (record (processor s p) { tlb = new })
 
 abbrev pub with_second_level : GuestState → ℕ → List (Option Second) → GuestState
 with_second_level s v new = record s { seconds = slice_set s.seconds v new }
+
+abbrev pub with_block : ℕ → Option RegBlock → GuestState → GuestState
+with_block v new s = record s { blocks = slice_set s.blocks v new }
 
 abbrev pub with_vcpu : GuestState → ℕ → Vcpu → GuestState
 with_vcpu s v new = record s { vcpus = slice_set s.vcpus v new }

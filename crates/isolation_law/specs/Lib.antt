@@ -1,6 +1,8 @@
 pub mod Surroundings
 pub mod Parts
 pub mod GuestState
+pub mod Mirrors
+pub mod PageAlike
 pub mod Content
 pub mod Policy
 pub mod DirectStep
@@ -37,5 +39,6 @@ pub mod Holdings
 pub mod Exchange
 pub mod UseChange
 pub mod MoveCount
+pub mod PageWords
 pub mod Isolation
 pub mod Worlds

@@ -1,11 +1,12 @@
 -- Moves: how they begin, by whom they are asked for, and how they end.
-use Rattle.std.specs.Prelude.{◌≡◌, ◌≢◌, ◌⊎◌, ℕ, ◌<◌, Bool, true, false, List, map, remove, length, Option, Some, None, slice_get}
+use Rattle.std.specs.Prelude.{◌≡◌, ◌≢◌, ◌⊎◌, ℕ, ◌<◌, Bool, true, false, List, map, remove, length, Option, Some, None, Err, slice_get}
 use Rattle.base_words.specs.declared.moves.By.{By}
 use Rattle.base_words.specs.declared.moves.By.TheVariants.{Plan, Due, Step, Packet}
 use Rattle.base_words.specs.declared.moves.MoveKind.{MoveKind}
 use Rattle.base_words.specs.declared.moves.MoveKind.TheVariants.{Migrate, Replicate, Collapse}
 use Rattle.base_words.specs.Membership.{HasNone, Has}
 use Rattle.private_machine.specs.Backing.{Copy, Change, Migrates, Replicates, Collapses, Breaks, TakesShared, GivesShared, Move, lies_on}
+use Rattle.private_machine.specs.HardwareStep.{Trap}
 use Rattle.private_machine.specs.Operation.{Packet as InHand, Operation, ReadsBlock, Delivers}
 use Rattle.private_machine.specs.PageMove.{kind_of, target_of, begun, finished, spares_finished}
 use Rattle.private_machine.specs.SecondLevel.{seconds_without_page}
@@ -15,7 +16,7 @@ use Rattle.isolation_law.specs.GuestState.{GuestState, page, due_on, block, is_d
 use Rattle.isolation_law.specs.Causes.{seeks_frame, first_cause}
 use Rattle.isolation_law.specs.CellUse.{held}
 use Rattle.isolation_law.specs.Dues.{cleared}
-use Rattle.isolation_law.specs.Needs.{Need, needed, of_step, for_packet}
+use Rattle.isolation_law.specs.Needs.{Need, LosesFrame, needed, for_packet}
 use Rattle.isolation_law.specs.Phases.{GoesOn, Runs}
 use Rattle.isolation_law.specs.StepAct.{at_hand}
 use Rattle.isolation_law.specs.Traps.{step_on}
@@ -37,12 +38,20 @@ pub record DueAsks (s : GuestState) (p : ℕ) (wish : Wish) : Type 0 where
 abbrev pub as_need : Wish → Option Operation → Need
 as_need wish operation = record { page = wish.page; kind = wish.kind; operation = operation }
 
+-- the hardware traps on a dead frame of a page, which has to be collapsed
+pub record StepLoses (s : GuestState) (p v : ℕ) (wish : Wish) (operation : Option Operation) : Type 0 where
+  pub trap : Trap
+  pub traps : step_on s p v ≡ Err trap
+  pub loses : LosesFrame s trap wish.page
+  pub is_collapse : wish.kind ≡ Collapse
+  pub for_none : operation ≡ None
+
 -- the step of what is loaded on a processor needs this move, whether it is to share or to copy; or that of the hardware does
 pub record StepAsks (s : GuestState) (p : ℕ) (wish : Wish) (operation : Option Operation) : Type 0 where
   pub v : ℕ
   pub runs : Runs s p v
   pub shares : Bool
-  pub needs : (needed s v shares (at_hand s v) ≡ Some (as_need wish operation)) ⊎ (of_step s (step_on s p v) ≡ Some (as_need wish operation))
+  pub needs : (needed s v shares (at_hand s v) ≡ Some (as_need wish operation)) ⊎ StepLoses s p v wish operation
   pub at_home : wish.node ≡ s.around.home
 
 pub record PacketAsks (s : GuestState) (wish : Wish) (operation : Option Operation) : Type 0 where

@@ -1,9 +1,11 @@
 -- Which move the step at hand needs of a page, which the hardware's step needs, and which a packet needs.
-use Rattle.std.specs.Prelude.{ℕ, ◌==◌, if◌then◌else◌, Bool, true, false, not, ◌&&◌, length, List, [], ◌∷◌, Option, Some, None, Result, Ok, Err, is_none, slice_get}
+use Rattle.std.specs.Prelude.{◌≡◌, ℕ, ◌==◌, if◌then◌else◌, Bool, true, false, not, ◌&&◌, length, List, [], ◌∷◌, Option, Some, None, is_none, slice_get}
 use Rattle.base_words.specs.declared.moves.MoveKind.{MoveKind}
 use Rattle.base_words.specs.declared.moves.MoveKind.TheVariants.{Collapse, Break, TakeShared, GiveShared}
-use Rattle.private_machine.specs.Backing.{Copy}
-use Rattle.private_machine.specs.HardwareStep.{Trap, Line, FetchMiss, DataMiss, ReadOnly, Address, Privileged, Raised, Dead, Done}
+use Rattle.base_words.specs.Membership.{Has}
+use Rattle.private_machine.specs.Backing.{Copy, copies}
+use Rattle.private_machine.specs.HardwareStep.{Trap, Line, FetchMiss, DataMiss, ReadOnly, Address, Privileged, Raised, Dead}
+use Rattle.private_machine.specs.Reaching.{Reached, Wanted}
 use Rattle.private_machine.specs.Operation.{Packet, Operation, ReadsBlock, Delivers}
 use Rattle.isolation_law.specs.Surroundings.{cell_of_frame, home_cell}
 use Rattle.isolation_law.specs.GuestState.{GuestState, page, block, is_dead, hand_place}
@@ -69,10 +71,14 @@ for_lost s (Privileged word) = None
 for_lost s (Raised x) = None
 for_lost s (Dead at w) = if is_none (page s at.page).move then Some (record { page = at.page; kind = Collapse; operation = None }) else None
 
--- the move that a step of the hardware needs
-abbrev pub of_step : GuestState → Result Done Trap → Option Need
-of_step s (Ok done) = None
-of_step s (Err trap) = for_lost s trap
+-- the hardware traps on a frame of a failed cell, which is one of this page
+pub record LosesFrame (s : GuestState) (trap : Trap) (q : ℕ) : Type 0 where
+  pub at : Reached
+  pub access : Wanted
+  pub is_dead : trap ≡ Dead at access
+  pub copy : Copy
+  pub its_own : Has (copies (page s q)) copy
+  pub is_it : copy.frame ≡ at.frame
 
 -- the move that the packet in hand needs, which comes into a page, where it is to share or to copy
 abbrev pub for_packet : GuestState → Bool → Packet → ℕ → Option Need

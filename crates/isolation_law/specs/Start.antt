@@ -5,11 +5,13 @@ use Rattle.base_words.specs.declared.input.InputEntry.{InputEntry}
 use Rattle.private_machine.specs.Backing.{Page}
 use Rattle.private_machine.specs.PrivateMachine.{PrivateMachine}
 use Rattle.private_machine.specs.Policy.{no_misses}
+use Rattle.private_machine.specs.RegisterPage.{has_page}
 use Rattle.private_machine.specs.PrivateRun.{Image, booted}
 use Rattle.private_machine.specs.SecondLevel.{no_seconds}
 use Rattle.isolation_law.specs.Surroundings.{Surroundings}
 use Rattle.private_machine.specs.Disk.{as_given}
 use Rattle.isolation_law.specs.GuestState.{GuestState, idle}
+use Rattle.isolation_law.specs.Mirrors.{blocks_for}
 
 -- the empty sets of processors and of cells
 abbrev pub no_processors : List Bool
@@ -56,7 +58,7 @@ pages_at_start (f ∷ frames) memory = page_at_start f (take 4096 memory) ∷ pa
 
 -- the private machine at the start
 abbrev pub private_start : Boot → PrivateMachine
-private_start b = booted b.image b.vcpus b.disk b.input
+private_start b = booted b.image b.vcpus b.around.profile b.disk b.input
 
 -- the guest at its start: nothing is mapped, loaded, moving, spare, dead, due or in hand
 abbrev pub start : Boot → GuestState
@@ -65,6 +67,7 @@ start b =
     let processors = length b.around.processors in record {
       around = b.around;
       vcpus = m.vcpus;
+      blocks = blocks_for (has_page b.around.profile) m.vcpus;
       devices = m.devices;
       disk = map as_given b.disk;
       sent_from = [];

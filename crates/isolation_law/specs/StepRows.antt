@@ -9,9 +9,10 @@ use Rattle.private_machine.specs.Operation.{ReadsBlock}
 use Rattle.private_machine.specs.HardwareStep.{Trap, Done}
 use Rattle.private_machine.specs.OwnStep.{own_step}
 use Rattle.private_machine.specs.PageMove.{taken, spares_taken}
+use Rattle.private_machine.specs.RegisterPage.{has_page, block_for}
 use Rattle.private_machine.specs.SecondLevel.{seconds_without_pair}
 use Rattle.isolation_law.specs.Surroundings.{cell_of_frame}
-use Rattle.isolation_law.specs.GuestState.{GuestState, page, processor, block, second_level, vcpu_of, with_page, with_tlb, with_second_level, operation_of, with_operation}
+use Rattle.isolation_law.specs.GuestState.{GuestState, page, processor, block, second_level, vcpu_of, with_block, with_page, with_tlb, with_second_level, operation_of, with_operation}
 use Rattle.private_machine.specs.Disk.{block_now}
 use Rattle.isolation_law.specs.Content.{content, with_own}
 use Rattle.isolation_law.specs.DirectStep.{direct}
@@ -63,9 +64,13 @@ act_done s p v (SendsPage q length to) = record s { sent_from = s.sent_from ++ c
 act_done s p v (WritesEntry index) = pair_dropped p v (new_pair s v) (pair_dropped p v (old_pair s v index) s)
 act_done s p v NoAct = s
 
+-- the register page of a virtual processor shows again what its registers read
+abbrev pub shown_again : ℕ → GuestState → GuestState
+shown_again v s = with_block v (block_for (has_page s.around.profile) (vcpu_of s v).cp0) s
+
 -- what is left by an emulated step
 abbrev pub emulated : GuestState → ℕ → ℕ → GuestState
-emulated s p v = with_own (own_step (content s) v) (act_done s p v (at_hand s v))
+emulated s p v = shown_again v (with_own (own_step (content s) v) (act_done s p v (at_hand s v)))
 
 -- A step that needs no move, be it to share or to copy.
 pub record Emulates (s : GuestState) (p v : ℕ) (t : GuestState) : Type 0 where
@@ -91,4 +96,4 @@ pub record EndsRead (s : GuestState) (p v : ℕ) (t : GuestState) : Type 0 where
   pub its_own : operation_of s q ≡ Some (ReadsBlock v b)
   pub nobody_waits : HasNone waiting
   pub unwritten : (block s b).overlay ≡ None
-  pub after : t ≡ with_own (own_step (content s) v) (taken_shared q target s)
+  pub after : t ≡ shown_again v (with_own (own_step (content s) v) (taken_shared q target s))

@@ -3,10 +3,11 @@ use Rattle.std.specs.Prelude.{ℕ, List, slice_index}
 use Rattle.base_words.specs.declared.moves.Policy.{Policy}
 use Rattle.private_machine.specs.Backing.{node_of_frame}
 
--- the guest's number and home node, how many frames a node has, the cell of each node, the node of each processor, the home
+-- the guest's number, profile and home node, how many frames a node has, the cell of each node, the node of each processor, the home
 -- cell of each guest, and the policy
 pub record Surroundings : Type 0 where
   pub guest : ℕ
+  pub profile : ℕ
   pub home : ℕ
   pub frames : ℕ
   pub nodes : List ℕ

@@ -6,10 +6,11 @@ use Rattle.isolation_law.specs.OwnHistory.{own, own_steps}
 use Rattle.isolation_law.specs.Run.{Run}
 use Rattle.isolation_law.specs.Start.{Boot, IsBoot, start}
 
--- the same guest: image, virtual processors, disk and input
+-- the same guest: image, virtual processors, profile, disk and input
 pub record SameGuest (b c : Boot) : Type 0 where
   pub image : b.image ≡ c.image
   pub vcpus : b.vcpus ≡ c.vcpus
+  pub profile : b.around.profile ≡ c.around.profile
   pub disk : b.disk ≡ c.disk
   pub input : b.input ≡ c.input
 

@@ -1,6 +1,7 @@
 //! What one entry keeps and does, and how a run grows by it: for the calls that make entries.
-ghost use Rattle.std.specs.Prelude.{◌≡◌, ◌≢◌, ◌⊎◌, ℕ, suc, ◌+◌, ◌*◌, ◌/◌, ◌%◌, List, [], ◌∷◌, ◌++◌, ◌<◌, ◌≤◌, length, take, true, false, None, Some, Ok, Err};
+ghost use Rattle.std.specs.Prelude.{◌≡◌, ◌≢◌, ◌⊎◌, ℕ, suc, ◌+◌, ◌*◌, ◌/◌, ◌%◌, List, [], ◌∷◌, ◌++◌, ◌<◌, ◌≤◌, length, take, Bool, true, false, None, Some, Ok, Err};
 ghost use Rattle.private_machine.specs.Links.{page_bytes};
+ghost use Rattle.base_words.specs.Halves.{Half};
 ghost use Rattle.base_words.specs.Membership.{Has};
 ghost use Rattle.base_words.specs.declared.events.End.{End};
 ghost use Rattle.base_words.specs.declared.events.Event.{Event};
@@ -14,12 +15,18 @@ ghost use Rattle.private_machine.specs.DeviceAct.{StoresTo};
 ghost use Rattle.private_machine.specs.HardwareStep.{Trap, Done, ReadOnly, Dead, hardware_step, cause_of};
 ghost use Rattle.private_machine.specs.DirectAccess.{data_told, data_reached};
 ghost use Rattle.base_words.specs.declared.place.Place.TheVariants.{Memory};
-ghost use Rattle.private_machine.specs.OwnStep.{joined, led};
+ghost use Rattle.private_machine.specs.StepAct.{act_next};
+ghost use Rattle.private_machine.specs.OwnStep.{attempted, joined, led, own_step};
+ghost use Rattle.private_machine.specs.PrivateMachine.{PrivateMachine, vcpu};
+ghost use Rattle.private_machine.specs.Devices.{device_done};
+ghost use Rattle.private_machine.specs.RegisterPage.{has_page};
+ghost use Rattle.base_words.specs.declared.device.DeviceRegister.{DeviceRegister};
+ghost use Rattle.base_words.specs.Coprocessor.{interrupts};
 ghost use Rattle.private_machine.specs.TrapAccess.{HoldsWord};
 ghost use Rattle.private_machine.specs.Reaching.{Sight, Reached, Wanted};
 ghost use Rattle.private_machine.specs.Serving.{AllServe};
 ghost use Rattle.private_machine.specs.TrapAccess.{TellsAccess};
-ghost use Rattle.isolation_law.specs.GuestState.{GuestState, page, processor};
+ghost use Rattle.isolation_law.specs.GuestState.{GuestState, page, processor, block_at};
 ghost use Rattle.isolation_law.specs.StepAct.{at_hand};
 ghost use Rattle.isolation_law.specs.Traps.{step_on};
 ghost use Rattle.isolation_law.specs.DataWithin.{IsWithinPages};
@@ -30,7 +37,9 @@ ghost use Rattle.isolation_law.specs.LoadRows.{Loads, Unloads, Acks};
 ghost use Rattle.isolation_law.specs.MoveCount.{moving_count};
 ghost use Rattle.isolation_law.specs.MoveRows.{Begins, Finishes};
 ghost use Rattle.isolation_law.specs.RefillRow.{Refills};
-ghost use Rattle.isolation_law.specs.StepRows.{Steps, Emulates, EndsRead};
+ghost use Rattle.isolation_law.specs.PageAlike.{without_page, paged, paged_to};
+ghost use Rattle.isolation_law.specs.PageWords.{IsTaken};
+ghost use Rattle.isolation_law.specs.StepRows.{Steps, IsEmulated, Emulates, EndsRead};
 ghost use Rattle.isolation_law.specs.SkipRow.{Skips, is_skip};
 ghost use Rattle.isolation_law.specs.Start.{Boot, IsBoot, start};
 ghost use Rattle.isolation_law.specs.DirectStep.{held_of, with_inputs};
@@ -38,7 +47,7 @@ ghost use Rattle.isolation_law.specs.Content.{content};
 ghost use Rattle.isolation_law.specs.Coherence.{Coherent};
 ghost use Rattle.isolation_law.specs.LiveCells.{UsesLive};
 ghost use Rattle.isolation_law.specs.OwnHistory.{own};
-ghost use Rattle.isolation_law.specs.Phases.{GoesOn};
+ghost use Rattle.isolation_law.specs.Phases.{GoesOn, Runs};
 ghost use Rattle.isolation_law.specs.PacketRows.{ComesToHand, Receives, EndsDelivery, Discards};
 ghost use Rattle.isolation_law.specs.MachineEvent.{Row};
 ghost use Rattle.isolation_law.specs.Run.{Run};
@@ -143,14 +152,15 @@ pub fn read_only_needs()
 
 /// Such a store is what the step at hand does with its page.
 pub fn read_only_stores()
-    ensures { (s : GuestState) (p v word : ℕ) (w : Wanted) (offset : ℕ) → Coherent s → (processor s p).loaded ≡ Some v → step_on s p v ≡ Err (ReadOnly word w) → led (content s) v w.unit w.purpose w.address ≡ Ok (Memory offset) → at_hand s v ≡ StoresTo (offset / 4096) }
+    ensures { (s : GuestState) (p v word : ℕ) (w : Wanted) (offset : ℕ) → Coherent s → Runs s p v → step_on s p v ≡ Err (ReadOnly word w) → led (content s) v w.unit w.purpose w.address ≡ Ok (Memory offset) → at_hand s v ≡ StoresTo (offset / 4096) }
 {}
 
 /// The frame of a failed cell for which the hardware traps is a replica of its page, which isn't shared: the page can be collapsed.
-/// It is the page to which the access leads, as a load.
+/// It was reached by a half of the processor's TLB, and it is the page to which the access leads, as a load.
 pub fn lost_is_replica()
     ensures collapses { (s : GuestState) (p v : ℕ) (at : Reached) (w : Wanted) → Coherent s → UsesLive s → GoesOn s → (processor s p).loaded ≡ Some v → step_on s p v ≡ Err (Dead at w) → (at.page < length s.pages) × ((page s at.page).shared ≡ false) × ((page s at.page).replicas ≢ []) }
     ensures frame { (s : GuestState) (p v : ℕ) (at : Reached) (w : Wanted) → Coherent s → UsesLive s → GoesOn s → (processor s p).loaded ≡ Some v → step_on s p v ≡ Err (Dead at w) → (c : Copy) × Has (page s at.page).replicas c × (c.frame ≡ at.frame) }
+    ensures half { (s : GuestState) (p v : ℕ) (at : Reached) (w : Wanted) → step_on s p v ≡ Err (Dead at w) → (h : Half) × Has (processor s p).tlb h × (h.page ≡ at.page) × (h.frame ≡ at.frame) }
     ensures leads { (s : GuestState) (p v : ℕ) (at : Reached) (w : Wanted) → Coherent s → (processor s p).loaded ≡ Some v → step_on s p v ≡ Err (Dead at w) → led (content s) v w.unit Load w.address ≡ Ok (Memory (at.page * 4096 + w.address % 4096)) }
 {}
 
@@ -168,4 +178,19 @@ pub fn second_level_serves()
 pub fn pages_seen()
     ensures whole { (s : GuestState) (q : ℕ) → Coherent s → q < length s.pages → length (page s q).master.bytes ≡ 4096 }
     ensures bytes { (s : GuestState) (q count : ℕ) → Coherent s → q < length s.pages → count ≤ 4096 → page_bytes (content s) q count ≡ take count (page s q).master.bytes }
+{}
+
+/// Where the hardware traps, the register page makes no difference: neither to the trap, nor to the step that the monitor then makes,
+/// nor to what that does with a page, nor to where it leads before its tick.
+pub fn traps_alike()
+    ensures trap { (x : Sight) (pages : List Page) (regs : Regs) (trap : Trap) → hardware_step x pages regs ≡ Err trap → hardware_step (without_page x) pages regs ≡ Err trap }
+    ensures step { (s : GuestState) (p v : ℕ) → Coherent s → IsEmulated s p v → own_step (paged false (content s)) v ≡ paged false (own_step (content s) v) }
+    ensures hand { (s : GuestState) (p v : ℕ) → Coherent s → IsEmulated s p v → act_next (joined (paged false (content s)) v) v ≡ at_hand s v }
+    ensures tried { (s : GuestState) (p v : ℕ) → Coherent s → IsEmulated s p v → interrupts (vcpu (joined (content s) v) v).cp0 ≡ false → attempted (joined (content s) v) v ≡ paged_to (has_page s.around.profile) (attempted (joined (paged false (content s)) v) v) }
+    ensures stored { (has : Bool) (m : PrivateMachine) (v value : ℕ) (register : DeviceRegister) → device_done (paged has m) v value register ≡ paged has (device_done m v value register) }
+{}
+
+/// What a step by itself writes on a register page is one of the words that the page takes.
+pub fn page_words_are_taken()
+    ensures { (s t : GuestState) (p v : ℕ) → (row : Steps s p v t) → IsTaken (block_at s v) row.done.does.request }
 {}

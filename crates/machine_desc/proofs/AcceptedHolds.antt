@@ -43,6 +43,8 @@ guest-within nodes guests tables homes = λ k d lt. let table = tables k d lt in
   few_vcpus = table.few_vcpus;
   home = homes k d lt;
   disk = table.disk;
+  some_profile = table.some_profile;
+  few_profiles = table.few_profiles;
 }
 
 -- the items are as many as the work

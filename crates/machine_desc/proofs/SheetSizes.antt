@@ -23,7 +23,7 @@ use Rattle.machine_desc.proofs.WorkSizes.{IsWork, work_at-within}
 pub record IsWithin (s : Sheet) : Type 0 where
   pub machine : IsMachineTable s.machine
   pub some_cells : 0 < length s.cells
-  pub few_cells : length s.cells ≤ 4
+  pub few_cells : length s.cells ≤ 8
   pub cells : All IsCellTable s.cells
   pub some_guests : 0 < length s.guests
   pub few_guests : length s.guests ≤ 8
@@ -36,7 +36,7 @@ pub record IsWithin (s : Sheet) : Type 0 where
 
 -- how many tables each array at the top has
 record IsTop (top : Cells) : Type 0 where
-  few_cells : length (tables (codes "cell") top) ≤ 4
+  few_cells : length (tables (codes "cell") top) ≤ 8
   some_guests : 1 ≤ length (tables (codes "guest") top)
   few_guests : length (tables (codes "guest") top) ≤ 8
   few_work : length (tables (codes "work") top) ≤ 4096
@@ -48,7 +48,7 @@ top_at-within ms top is =
     let fits = table_at-fit Top [] top_rows ms top refl is in
     let guests = tables_row (codes "guest") (cell_named (codes "guest") top) 1 8 fits.1.1.0 in
     record {
-      few_cells = few_tables_row (codes "cell") (cell_named (codes "cell") top) 1 4 fits.1.0;
+      few_cells = few_tables_row (codes "cell") (cell_named (codes "cell") top) 1 8 fits.1.0;
       some_guests = guests.0;
       few_guests = guests.1;
       few_work = few_tables_row (codes "work") (cell_named (codes "work") top) 0 4096 fits.1.1.1.1.0;
@@ -57,13 +57,13 @@ top_at-within ms top is =
 
 record AreCells (cells : List CellTable) : Type 0 where
   some : 0 < length cells
-  few : length cells ≤ 4
+  few : length cells ≤ 8
   all : All IsCellTable cells
 
 length-one_cell : (count : ℕ) → length (one_cell count).nodes ≡ count
 length-one_cell count = length-map-range_with_len _ 0 count
 
-or_one_cell-within : (count : ℕ) (cells : List CellTable) → 0 < count → length cells ≤ 4 → All IsCellTable cells → AreCells (or_one_cell count cells)
+or_one_cell-within : (count : ℕ) (cells : List CellTable) → 0 < count → length cells ≤ 8 → All IsCellTable cells → AreCells (or_one_cell count cells)
 or_one_cell-within count [] some few all = record {
   some = omega arith;
   few = omega arith;

@@ -33,6 +33,10 @@ module _ (key : List ℕ) (cell : Cell) where
   most_or high default le (inl n) = rw n.is n.most
   most_or high default le (inr is) = let e : cell ≡ a_number default = cc in rw e le
 
+  pub within_or : (low high default : ℕ) → low ≤ default → default ≤ high → FitsRow (optional key (between low high) (a_number default)) cell → (low ≤ number_of cell) × (number_of cell ≤ high)
+  within_or low high default more le (inl n) = rw n.is (n.least, n.most)
+  within_or low high default more le (inr is) = let e : cell ≡ a_number default = cc in rw e (more, le)
+
   pub list_row : (many : ℕ) → FitsRow (required key (node_list many)) cell → (1 ≤ length (list_of cell)) × (length (list_of cell) ≤ many)
   list_row many (inl fits) = fits
   list_row many (inr never) = absurd (cc)
@@ -66,7 +70,7 @@ pub record IsMachineTable (machine : MachineTable) : Type 0 where
   pub some_frames : 0 < machine.frames
   pub few_frames : machine.frames ≤ 4096
   pub some_processors : 0 < length machine.processors
-  pub few_processors : length machine.processors ≤ 16
+  pub few_processors : length machine.processors ≤ 32
   pub small_cache : machine.cache ≤ 1024
 
 pub machine_at-within : (ms : Members) (machine : MachineTable) → machine_at ms ≡ Ok machine → IsMachineTable machine
@@ -75,7 +79,7 @@ machine_at-within ms machine is =
     let cells = bound (table_at places.Machine [] machine_rows ms) (λ cells. Ok (machine_of cells)) machine is in
     let fits = table_at-fit places.Machine [] machine_rows ms cells.0 refl cells.1 in
     let e : machine_of cells.0 ≡ machine = let s = cells.2 in cc in
-    let list = list_row (codes "processors") (cell_named (codes "processors") cells.0) 16 fits.1.1.0 in
+    let list = list_row (codes "processors") (cell_named (codes "processors") cells.0) 32 fits.1.1.0 in
     let here : IsMachineTable (machine_of cells.0) = record {
       some_nodes = omega (arith, least (codes "nodes") (cell_named (codes "nodes") cells.0) 1 8 fits.0);
       few_nodes = most (codes "nodes") (cell_named (codes "nodes") cells.0) 1 8 fits.0;
@@ -109,6 +113,8 @@ pub record IsGuestTable (guest : GuestSpec) : Type 0 where
   pub some_vcpus : 0 < guest.vcpus
   pub few_vcpus : guest.vcpus ≤ 4
   pub disk : IfSome guest.disk IsName
+  pub some_profile : 0 < guest.profile
+  pub few_profiles : guest.profile ≤ 2
 
 pub guest_at-within : (i : ℕ) (ms : Members) (guest : GuestSpec) → guest_at i ms ≡ Ok guest → IsGuestTable guest
 unfolding guest_at
@@ -118,6 +124,7 @@ guest_at-within i ms guest is =
     let e : guest_of cells.0 ≡ guest = let s = cells.2 in cc in
     let pages = cell_named (codes "pages") cells.0 in
     let vcpus = cell_named (codes "vcpus") cells.0 in
+    let profile = within_or (codes "profile") (cell_named (codes "profile") cells.0) 1 2 1 (omega arith) (omega arith) fits.1.1.1.1.1.1.0 in
     subst IsGuestTable e (record {
       image = name_row (codes "image") (cell_named (codes "image") cells.0) fits.0;
       some_pages = omega (arith, least (codes "pages") pages 1 2048 fits.1.1.0);
@@ -125,6 +132,8 @@ guest_at-within i ms guest is =
       some_vcpus = omega (arith, least (codes "vcpus") vcpus 1 4 fits.1.1.1.0);
       few_vcpus = most (codes "vcpus") vcpus 1 4 fits.1.1.1.0;
       disk = name_if_any_row (codes "disk") (cell_named (codes "disk") cells.0) fits.1.1.1.1.1.0;
+      some_profile = omega (arith, profile.0);
+      few_profiles = profile.1;
     })
 
 pub policy_at-within : (ms : Members) (policy : Policy) → policy_at ms ≡ Ok policy → IsPolicy policy

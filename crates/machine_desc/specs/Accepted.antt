@@ -12,10 +12,10 @@ pub record IsAccepted (d : Described) : Type 0 where
   pub some_frames : 0 < d.frames
   pub few_frames : d.frames ≤ 4096
   pub some_processors : 0 < length d.processors
-  pub few_processors : length d.processors ≤ 16
+  pub few_processors : length d.processors ≤ 32
   pub on_nodes : All (λ node. node.0 < d.nodes) d.processors
   pub some_cells : 0 < length d.lends
-  pub few_cells : length d.lends ≤ 4
+  pub few_cells : length d.lends ≤ 8
   pub small_lends : All (λ lend. lend ≤ 32768) d.lends
   pub in_cells : length d.cells ≡ d.nodes
   pub of_cells : All (λ cell. cell.0 < length d.lends) d.cells

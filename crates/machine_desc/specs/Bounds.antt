@@ -32,6 +32,8 @@ pub record IsGuest (nodes : ℕ) (guest : GuestSpec) : Type 0 where
   pub few_vcpus : guest.vcpus ≤ 4
   pub home : guest.node.0 < nodes
   pub disk : IfSome guest.disk IsName
+  pub some_profile : 0 < guest.profile
+  pub few_profiles : guest.profile ≤ 2
 
 pub record IsPolicy (policy : Policy) : Type 0 where
   pub migrate : policy.migrate ≤ 1000000

@@ -7,7 +7,7 @@ use Rattle.machine_desc.specs.Kinds.{between, node_list, text_to, one_of, one_ta
 abbrev pub top_rows : List Row
 top_rows =
     required (codes "machine") one_table
-    ∷ optional (codes "cell") (array_of 1 4) (some_tables [])
+    ∷ optional (codes "cell") (array_of 1 8) (some_tables [])
     ∷ required (codes "guest") (array_of 1 8)
     ∷ optional (codes "policy") one_table (a_table no_members)
     ∷ optional (codes "work") (array_of 0 4096) (some_tables [])
@@ -19,7 +19,7 @@ abbrev pub machine_rows : List Row
 machine_rows =
     required (codes "nodes") (between 1 8)
     ∷ required (codes "frames") (between 1 4096)
-    ∷ required (codes "processors") (node_list 16)
+    ∷ required (codes "processors") (node_list 32)
     ∷ optional (codes "cache") (between 0 1024) (a_number 0)
     ∷ []
 
@@ -43,6 +43,7 @@ guest_rows =
     ∷ required (codes "vcpus") (between 1 4)
     ∷ required (codes "node") (between 0 7)
     ∷ optional (codes "disk") (text_to 255) nothing
+    ∷ optional (codes "profile") (between 1 2) (a_number 1)
     ∷ []
 
 -- the table `policy`
@@ -63,7 +64,7 @@ kind_row =
 
 -- who does the work
 abbrev pub processor_row : Row
-processor_row = required (codes "processor") (between 0 15)
+processor_row = required (codes "processor") (between 0 31)
 
 -- which guest the work or the input is for
 abbrev pub guest_row : Row
@@ -92,7 +93,7 @@ move_rows = processor_row ∷ guest_row ∷ page_row ∷ required (codes "node")
 
 -- the failure of a cell
 abbrev pub fail_rows : List Row
-fail_rows = processor_row ∷ required (codes "cell") (between 0 3) ∷ []
+fail_rows = processor_row ∷ required (codes "cell") (between 0 7) ∷ []
 
 -- a table `input`
 abbrev pub input_rows : List Row

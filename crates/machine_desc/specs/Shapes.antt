@@ -46,5 +46,5 @@ sheet_at ms = do
 pub record IsSized (s : Sheet) : Type 0 where
   pub few_nodes : s.machine.nodes ≤ 8
   pub has_frames : 0 < s.machine.frames
-  pub few_cells : length s.cells ≤ 4
+  pub few_cells : length s.cells ≤ 8
   pub few_work : length s.work ≤ 4096

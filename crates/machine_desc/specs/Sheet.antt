@@ -41,6 +41,7 @@ guest_of cells = record {
   vcpus = number (codes "vcpus") cells;
   node = record { 0 = number (codes "node") cells };
   disk = text_if_any (codes "disk") cells;
+  profile = number (codes "profile") cells;
 }
 
 -- a table `guest` by its number, or its first fault

@@ -15,7 +15,7 @@ pub struct Machine {
     pub policy: Policy,
 }
 
-/// One guest: the files that it starts from, its size, and its home node.
+/// One guest: the files that it starts from, its size, its home node, and its profile.
 #[derive(Debug, Drop)]
 pub struct GuestSpec {
     pub image: Name,
@@ -25,6 +25,8 @@ pub struct GuestSpec {
     pub vcpus: u8,
     pub node: NodeId,
     pub disk: Option<Name>,
+    /// 1, or 2 for a guest whose kernel has a register page.
+    pub profile: u8,
 }
 
 /// The guests, by their numbers.

@@ -99,7 +99,7 @@ pub fn cells_named(alloc: Global, count: u8, cells: &[CellTable]) -> Result<(), 
 
 /// The cell of a node.
 fn home(alloc: Global, cells: &[CellTable], node: NodeId) -> Result<CellId, DescFault>
-    requires { length cells.now ≤ 4 }
+    requires { length cells.now ≤ 8 }
     ensures { Gives (λ cell. cell) result (home cells.now node.0) }
 {
     let (place, name) = (Place::Machine, "nodes");
@@ -113,7 +113,7 @@ fn home(alloc: Global, cells: &[CellTable], node: NodeId) -> Result<CellId, Desc
 /// The cell of each node, or the least node without one.
 #[tactic(auto, unfolding(crate::specs::Names::homes), using(crate::proofs::Ranges::range_readings))]
 pub fn homes(alloc: Global, count: u8, cells: &[CellTable]) -> Result<CellList, DescFault>
-    requires { length cells.now ≤ 4 }
+    requires { length cells.now ≤ 8 }
     ensures homes { Gives (λ homes. homes) result (homes count cells.now) }
     ensures as_many { IfOk result (λ homes. length homes ≡ count) }
 {

@@ -28,7 +28,7 @@ pub struct Top<'a> {
 #[tactic(auto, unfolding(crate::specs::Shapes::top_at))]
 fn top_in(alloc: Global, table: &Table) -> Result<Top<'_>, DescFault>
     ensures top { Gives top_cells result (top_at (table_view table.now)) }
-    ensures few_cells { IfOk result (λ top. vec_len top.cells ≤ 4) }
+    ensures few_cells { IfOk result (λ top. vec_len top.cells ≤ 8) }
     ensures few_work { IfOk result (λ top. vec_len top.work ≤ 4096) }
 {
     let place = Place::Top;
@@ -39,7 +39,7 @@ fn top_in(alloc: Global, table: &Table) -> Result<Top<'_>, DescFault>
     };
     section.only(&["machine", "cell", "guest", "policy", "work", "input"])?;
     let machine = section.table("machine")?;
-    let cells = section.tables_if_any("cell", 1, 4)?;
+    let cells = section.tables_if_any("cell", 1, 8)?;
     let guests = section.tables("guest", 1, 8)?;
     let policy = section.table_if_any("policy")?;
     let work = section.tables_if_any("work", 0, 4096)?;
@@ -71,9 +71,9 @@ fn cells_or_one(
     count: u8,
     mut cells: Sequence<CellTable>,
 ) -> Result<Sequence<CellTable>, AllocError>
-    requires { length cells ≤ 4 }
+    requires { length cells ≤ 8 }
     ensures all { IfOk result (λ all. all ≡ or_one_cell count cells) }
-    ensures few { IfOk result (λ all. length all ≤ 4) }
+    ensures few { IfOk result (λ all. length all ≤ 8) }
 {
     if cells.is_empty() {
         cells.push(one_cell(alloc, count)?)?;

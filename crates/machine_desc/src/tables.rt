@@ -27,7 +27,7 @@ pub fn machine_in(alloc: Global, table: &Table) -> Result<MachineTable, DescFaul
     section.only(&["nodes", "frames", "processors", "cache"])?;
     let nodes = section.number("nodes", 1, 8)?;
     let frames = section.number("frames", 1, 4096)?;
-    let processors = section.nodes("processors", 16)?;
+    let processors = section.nodes("processors", 32)?;
     let cache = section.number_or("cache", 0, 1024, 0)?;
     Ok(MachineTable {
         nodes: nodes as u8,
@@ -78,13 +78,14 @@ fn guest_in(alloc: Global, number: usize, table: &Table) -> Result<GuestSpec, De
         place,
         table,
     };
-    section.only(&["image", "form", "pages", "vcpus", "node", "disk"])?;
+    section.only(&["image", "form", "pages", "vcpus", "node", "disk", "profile"])?;
     let image = section.text("image", 255)?;
     let raw = section.is_raw()?;
     let pages = section.number("pages", 1, 2048)?;
     let vcpus = section.number("vcpus", 1, 4)?;
     let node = section.number("node", 0, 7)?;
     let disk = section.text_if_any("disk", 255)?;
+    let profile = section.number_or("profile", 1, 2, 1)?;
     Ok(GuestSpec {
         image: Name::from_string(image),
         raw,
@@ -92,6 +93,7 @@ fn guest_in(alloc: Global, number: usize, table: &Table) -> Result<GuestSpec, De
         vcpus: vcpus as u8,
         node: NodeId(node as u8),
         disk: disk.map(Name::from_string),
+        profile: profile as u8,
     })
 }
 

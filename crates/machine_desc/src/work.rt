@@ -23,7 +23,7 @@ fn run_in(alloc: Global, number: usize, table: &Table) -> Result<Work, DescFault
         table,
     };
     section.only(&["act", "processor", "guest", "vcpu", "steps"])?;
-    let processor = section.number("processor", 0, 15)?;
+    let processor = section.number("processor", 0, 31)?;
     let guest = section.number("guest", 0, 7)?;
     let vcpu = section.number("vcpu", 0, 3)?;
     let steps = section.number("steps", 0, 16000000)?;
@@ -47,7 +47,7 @@ fn collapse_in(alloc: Global, number: usize, table: &Table) -> Result<Work, Desc
         table,
     };
     section.only(&["act", "kind", "processor", "guest", "page"])?;
-    let processor = section.number("processor", 0, 15)?;
+    let processor = section.number("processor", 0, 31)?;
     let guest = section.number("guest", 0, 7)?;
     let page = section.number("page", 0, 2047)?;
     Ok(Work::Move {
@@ -71,7 +71,7 @@ fn move_to(alloc: Global, number: usize, kind: MoveKind, table: &Table) -> Resul
         table,
     };
     section.only(&["act", "kind", "processor", "guest", "page", "node"])?;
-    let processor = section.number("processor", 0, 15)?;
+    let processor = section.number("processor", 0, 31)?;
     let guest = section.number("guest", 0, 7)?;
     let page = section.number("page", 0, 2047)?;
     let node = section.number("node", 0, 7)?;
@@ -114,8 +114,8 @@ fn fail_in(alloc: Global, number: usize, table: &Table) -> Result<Work, DescFaul
         table,
     };
     section.only(&["act", "processor", "cell"])?;
-    let processor = section.number("processor", 0, 15)?;
-    let cell = section.number("cell", 0, 3)?;
+    let processor = section.number("processor", 0, 31)?;
+    let cell = section.number("cell", 0, 7)?;
     Ok(Work::Fail {
         processor: ProcId(processor as u8),
         cell: CellId(cell as u8),

@@ -32,7 +32,7 @@ use Rattle.trap_emulate.specs.Trapped.{IsDenied, IsTrap}
 
 -- what it goes by, with some halves
 abbrev pub sight_of : Vcpu → List Half → Sight
-sight_of c tlb = record { user = in_user_mode c.cp0.status; asid = c.cp0.entry_hi.asid; line = interrupts c.cp0; tlb = tlb; lost = λ (frame : ℕ). false }
+sight_of c tlb = record { user = in_user_mode c.cp0.status; asid = c.cp0.entry_hi.asid; line = interrupts c.cp0; tlb = tlb; lost = λ (frame : ℕ). false; block = None }
 
 abbrev pub half_of : Vcpu → Half
 half_of c = record { number = c.registers.pc / 4096; asid = 0; global = true; page = 0; frame = 0; writable = false }
@@ -202,15 +202,15 @@ raised-trap m v c pages needs word e here fetches_it plain does =
     (plain-step c pages word fetches_it plain ∙ ap (executes (sight_of c (half_of c ∷ [])) word at_first) does) tt
 
 -- its data access, which reaches nothing
-asks-step : (x : Sight) (word : ℕ) (w : Wanted) (lack : Lack) (does : Result Effect Exception) → asked_by does ≡ Some w → reached x w ≡ Err lack → executes x word at_first does ≡ Err (data_trap word w lack)
-asks-step x word w lack (Err e) asked lacks = cc
-asks-step x word w lack (Ok does) asked lacks =
-    ap (λ (o : Option Wanted). accesses x word at_first does o) asked ∙ ap (λ (r : Result Reached Lack). with_data word w at_first does r) lacks
+asks-step : (c : Vcpu) (tlb : List Half) (word : ℕ) (w : Wanted) (lack : Lack) (does : Result Effect Exception) → asked_by does ≡ Some w → reached (sight_of c tlb) w ≡ Err lack → executes (sight_of c tlb) word at_first does ≡ Err (data_trap word w lack)
+asks-step c tlb word w lack (Err e) asked lacks = cc
+asks-step c tlb word w lack (Ok does) asked lacks =
+    ap (λ (o : Option Wanted). accesses (sight_of c tlb) word at_first does o) asked ∙ ap (λ (r : Result Reached Lack). with_data word w at_first does r) lacks
 
 data-step : (c : Vcpu) (pages word : ℕ) (w : Wanted) (lack : Lack) → Fetches c pages → is_privileged word ≡ false → asked_by (effect (decoded word) c.registers) ≡ Some w → reached (sight_of c (half_of c ∷ [])) w ≡ Err lack
     → hardware_step (sight_of c (half_of c ∷ [])) (backing c word) c.registers ≡ Err (data_trap word w lack)
 data-step c pages word w lack fetches_it plain asked lacks =
-    plain-step c pages word fetches_it plain ∙ asks-step (sight_of c (half_of c ∷ [])) word w lack (effect (decoded word) c.registers) asked lacks
+    plain-step c pages word fetches_it plain ∙ asks-step c (half_of c ∷ []) word w lack (effect (decoded word) c.registers) asked lacks
 
 pub data-nowhere-trap : (m : PrivateMachine) (v : ℕ) (c : Vcpu) (pages : ℕ) (needs : Option MoveKind) (word : ℕ) (w : Wanted) → vcpu m v ≡ c → Fetches c pages → is_privileged word ≡ false
     → asked_by (effect (decoded word) c.registers) ≡ Some w → is_address_error (leads c pages w) ≡ true → IsTrap m v needs (causes.Address (Some word))

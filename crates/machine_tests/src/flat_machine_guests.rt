@@ -36,6 +36,7 @@ pub enum Happens<'a> {
 pub struct Row<'a> {
     pub about: &'a str,
     pub vcpus: u8,
+    pub profile: u8,
     pub program: &'a [u32],
     pub vector: &'a [u32],
     /// The first bytes of its disk's one block; no disk where there are none.
@@ -54,6 +55,7 @@ pub fn steps_40<'a>() -> Row<'a>
     Row {
         about: "",
         vcpus: 1,
+        profile: 1,
         program: &[],
         vector: &[],
         disk: &[],
@@ -122,12 +124,15 @@ pub fn boot(rt: &impl Abort, alloc: Global, row: &Row) -> Flat
     let image = image_of(rt, alloc, row);
     let input = input_of(rt, alloc, row);
     if row.disk.is_empty() {
-        gave(rt, Flat::boot(alloc, &image, row.vcpus, None, &input))
+        gave(
+            rt,
+            Flat::boot(alloc, &image, row.vcpus, row.profile, None, &input),
+        )
     } else {
         let disk = disk_of(rt, alloc, row.disk);
         gave(
             rt,
-            Flat::boot(alloc, &image, row.vcpus, Some(&disk), &input),
+            Flat::boot(alloc, &image, row.vcpus, row.profile, Some(&disk), &input),
         )
     }
 }

@@ -1,2 +1,3 @@
+pub mod OftenLemmas
 pub mod RandomLemmas
 pub mod TickLemmas

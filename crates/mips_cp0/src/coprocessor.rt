@@ -3,7 +3,7 @@ ghost use Rattle.std.specs.Prelude.{◌≡◌, ◌<◌, false};
 ghost use Rattle.base_words.specs.Fields.{sum};
 ghost use Rattle.base_words.specs.Coprocessor.{at_reset as at_reset_of, register_at, reads, writes, probe_answered, in_user_mode, interrupts, line_set, ticked, with_line as with_line_of};
 ghost use Rattle.mips_cp0.specs.Behind.{random_after as random_after_of, Meets};
-ghost use Rattle.mips_cp0.specs.Quiet.{IsQuiet};
+ghost use Rattle.mips_cp0.specs.Quiet.{IsQuiet, ticked_often};
 ghost use Rattle.base_words.specs.Exception.{entered, vector as vector_of, handling, with_restart, with_details};
 
 use crate::exceptions::{Details, describe};
@@ -195,6 +195,32 @@ impl Cp0 {
             self.meet();
         } else {
             self.ticks = ticks;
+        }
+    }
+
+    /// So many steps are done, one by one.
+    #[cold]
+    #[inline(never)]
+    fn tick_each(&mut self, steps: u64)
+        ensures { self.new ≡ ticked_often steps self.old }
+    {
+        for _step in 0..steps {
+            self.tick();
+        }
+    }
+
+    /// So many steps are done, which change nothing else of it.
+    #[inline]
+    pub fn tick_by(&mut self, steps: u64)
+        ensures { self.new ≡ ticked_often steps self.old }
+    {
+        let room = self.left - self.ticks;
+        if steps < room {
+            self.ticks += steps;
+        } else {
+            self.ticks = self.left - 1;
+            self.tick();
+            self.tick_each(steps - room);
         }
     }
 

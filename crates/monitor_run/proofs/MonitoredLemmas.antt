@@ -31,7 +31,7 @@ use Rattle.monitor_run.proofs.SourceLemmas.{given_blocks-as_given}
 
 -- ---- starts
 
-IsBooted-from : (d : Described) (guest : ℕ) (spec : GuestSpec) (disks : List (List (List ℕ))) (image : Image) (number : Option ℕ) (input : List InputEntry) (b : Boot) → length d.processors ≤ 16 → IsGuest d.nodes spec
+IsBooted-from : (d : Described) (guest : ℕ) (spec : GuestSpec) (disks : List (List (List ℕ))) (image : Image) (number : Option ℕ) (input : List InputEntry) (b : Boot) → length d.processors ≤ 32 → IsGuest d.nodes spec
     → IsStarted spec (record { image = image_seen image; disk = disk_numbered disks number }) → IsStart d guest spec (source_of disks image number) input b → IsBooted d guest spec (record { image = image_seen image; disk = disk_numbered disks number }) input b
 IsBooted-from d guest spec disks image number input b few is started start =
     let pages : spec.pages ≡ b.image.pages = sym started.pages ∙ sym (ap (λ (i : Given). i.pages) start.image_is) in
@@ -57,7 +57,7 @@ AreBoots [] = Unit {0}
 AreBoots (b ∷ boots) = IsBoot b × AreBoots boots
 
 module _ (d : Described) where
-  AreBooted-from : (disks : List (List (List ℕ))) (guest : ℕ) (specs : List GuestSpec) (images : List Image) (numbers : List (Option ℕ)) (inputs : List (List InputEntry)) (boots : List Boot) → length d.processors ≤ 16 → ByRecursion (IsGuest d.nodes) specs → length images ≡ length numbers
+  AreBooted-from : (disks : List (List (List ℕ))) (guest : ℕ) (specs : List GuestSpec) (images : List Image) (numbers : List (Option ℕ)) (inputs : List (List InputEntry)) (boots : List Boot) → length d.processors ≤ 32 → ByRecursion (IsGuest d.nodes) specs → length images ≡ length numbers
       → AreStarted specs (paired images (map (disk_numbered disks) numbers)) → AreStarts d guest specs (sources_of disks images numbers) inputs boots → AreBooted d guest specs (paired images (map (disk_numbered disks) numbers)) inputs boots
   AreBooted-from disks guest [] [] numbers [] [] few is same are starts = tt
   AreBooted-from disks guest [] [] numbers [] (b ∷ boots) few is same are starts = absurd starts

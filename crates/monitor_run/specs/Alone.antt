@@ -33,7 +33,7 @@ MayRun guest vcpus (Fail p cell) = Unit {0}
 
 -- a guest's private machine after its items
 abbrev pub machine_alone : List Item → ℕ → GuestSpec → Start → List InputEntry → PrivateMachine
-machine_alone items guest spec start input = private_run (booted start.image spec.vcpus start.disk input) (own_events guest items)
+machine_alone items guest spec start input = private_run (booted start.image spec.vcpus spec.profile start.disk input) (own_events guest items)
 
 -- it ends halted where all its virtual processors have halted
 abbrev pub end_alone : PrivateMachine → End

@@ -95,7 +95,7 @@ fn run_guest(
     requires items { All (MayRun guest spec.now.vcpus) items.now }
     ensures { IfOk result (λ left. left ≡ left_alone (machine_alone items.now guest spec.now (record { image = image_seen image.now; disk = blocks_of_disk (option_map (λ blocks. blocks.now) disk.entry) }) input.now)) }
 {
-    let mut flat = Flat::boot(alloc, image, spec.vcpus, disk, input)?;
+    let mut flat = Flat::boot(alloc, image, spec.vcpus, spec.profile, disk, input)?;
     run_items(&mut flat, guest, items)?;
     let end = end_of(&flat, spec.vcpus);
     Ok(Alone {

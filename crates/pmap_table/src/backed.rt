@@ -1,18 +1,19 @@
 //! A page and what backs it.
 ghost use Rattle.std.specs.Prelude.{◌≡◌, ◌<◌, ◌≤◌, ◌%◌, true, false, length, option_map};
+ghost use Rattle.std.specs.List.{list_any};
 ghost use Rattle.base_words.specs.Limits.{most_processors};
 ghost use Rattle.base_words.specs.Memory.{word_at};
-ghost use Rattle.private_machine.specs.Backing.{copies, has_frame, bytes_through, stored_through, with_first};
+ghost use Rattle.private_machine.specs.Backing.{copies, has_frame, lies_on, bytes_through, stored_through, with_first};
 ghost use Rattle.private_machine.specs.PageMove.{named_by, left_by};
 ghost use Rattle.pmap_table.specs.OpenMoves.{told};
 ghost use Rattle.pmap_table.specs.BackedPages.{own_page};
-ghost use Rattle.pmap_table.specs.NearFrame.{near_frame};
+ghost use Rattle.pmap_table.specs.NearFrame.{lost_on, near_frame};
 
 use crate::OpenMove;
 use crate::master::Master;
 use crate::open_move::PendingMove;
 use crate::replicas::Replicas;
-use base_words::{Frame, FrameNo, NodeId, ProcId, ProcSet};
+use base_words::{CellSet, Frame, FrameNo, NodeId, ProcId, ProcSet, Shape};
 use std::marker::Model;
 
 /// A page: its master, the processors whose TLBs may name it, its open move and its replicas.
@@ -65,19 +66,20 @@ impl BackedPage {
         }
     }
 
-    /// The frame by which a node reaches the page, where each node has so many frames.
-    pub(crate) fn nearest(&self, node: NodeId, frames: u32) -> FrameNo
+    /// Whether the master or a replica lies on a node, where each node has so many frames.
+    pub(crate) fn is_on(&self, node: NodeId, frames: u32) -> bool
         requires { 0 < frames }
-        ensures { result.0 ≡ near_frame frames node.0 self.now }
+        ensures { result ≡ list_any (lies_on frames node.0) (copies self.now) }
     {
-        let master = self.master.number();
-        if master.0 / frames == u32::from(node.0) {
-            return master;
-        }
-        match self.replicas.on_node(frames, node) {
-            Some(replica) => replica,
-            None => master,
-        }
+        self.master.number().0 / frames == u32::from(node.0) || self.replicas.is_on(frames, node)
+    }
+
+    /// The frame by which a node reaches the page.
+    pub(crate) fn nearest(&self, node: NodeId, shape: &Shape, dead: CellSet) -> FrameNo
+        ensures { result.0 ≡ near_frame shape.now.frames (lost_on shape.now dead) node.0 self.now.master.frame self.now.replicas }
+    {
+        self.replicas
+            .nearest(self.master.number(), node, shape, dead)
     }
 
     /// Replaces the word at an offset of the master.

@@ -10,6 +10,7 @@ mod freed;
 mod giving;
 mod mapping;
 mod master;
+mod nearness;
 mod open_move;
 mod open_pages;
 mod page_set;
@@ -17,6 +18,7 @@ mod pmap;
 mod replicas;
 mod sharing;
 mod threads;
+mod untying;
 
 pub use freed::Freed;
 pub use open_move::{Change, OpenMove};

@@ -1,9 +1,11 @@
 //! The table of a guest's pages.
 ghost use Rattle.std.specs.Prelude.{◌≡◌, ℕ, Bool, true, false, ◌<◌, ◌≤◌, ◌↔◌, [], IsTrue, IfOk, IfSome, IfNone, OnOk, OnErr, length, map, count_by, option_map};
+ghost use Rattle.std.specs.List.{list_any};
 ghost use Rattle.base_words.specs.Limits.{most_processors};
 ghost use Rattle.base_words.specs.declared.ids.Ppn.{Ppn};
 ghost use Rattle.base_words.specs.Membership.{Has, IsMember};
-ghost use Rattle.private_machine.specs.Backing.{Copy, page_at, copies, has_frame, nearest as nearest_of};
+ghost use Rattle.private_machine.specs.Backing.{Copy, page_at, copies, has_frame, lies_on, nearest as nearest_of};
+ghost use Rattle.pmap_table.specs.NearFrame.{lost_on, IsAsNear};
 ghost use Rattle.pmap_table.specs.OpenMoves.{told};
 ghost use Rattle.pmap_table.specs.BackedPages.{own_page};
 ghost use Rattle.pmap_table.specs.PageMap.{is_moving};
@@ -12,7 +14,7 @@ ghost use Rattle.pmap_table.specs.Tracking.{waits_for, is_ready, IsLowest, Holds
 use crate::OpenMove;
 use crate::backed::BackedPage;
 use crate::open_pages::OpenPages;
-use base_words::{Frame, FrameList, FrameNo, NodeId, Ppn, ProcId, ProcSet, Shape};
+use base_words::{CellSet, Frame, FrameList, FrameNo, NodeId, Ppn, ProcId, ProcSet, Shape};
 use std::alloc::{AllocError, Global};
 use std::marker::Model;
 
@@ -137,14 +139,24 @@ impl Pmap {
         self.at(page).master.generation()
     }
 
-    /// The frame by which a node reaches a page of whose frames none is lost: a master or replica that lies on the node, else the
-    /// master.
-    pub fn nearest(&self, page: Ppn, node: NodeId, shape: &Shape) -> FrameNo
+    /// The frame by which a node reaches a page whose master lies in no cell that has failed: of the master and of the replicas that
+    /// don't either, the one whose node's number differs least from the node's, on the lower node among equals.
+    pub fn nearest(&self, page: Ppn, node: NodeId, shape: &Shape, dead: CellSet) -> FrameNo
         requires { page.0 < length self.now.pages }
-        ensures frame { (lost : ℕ → Bool) → ((c : Copy) → Has (copies (page_at self.now.pages page.0)) c → lost c.frame ≡ false) → result.0 ≡ nearest_of shape.now.frames lost node.0 (page_at self.now.pages page.0) }
+        ensures frame { result.0 ≡ nearest_of shape.now.frames (lost_on shape.now dead) node.0 (page_at self.now.pages page.0) }
         ensures backed { has_frame (copies (page_at self.now.pages page.0)) result.0 ≡ true }
+        ensures lives { lost_on shape.now dead (page_at self.now.pages page.0).master.frame ≡ false → lost_on shape.now dead result.0 ≡ false }
+        ensures least { (c : Copy) → Has (copies (page_at self.now.pages page.0)) c → lost_on shape.now dead c.frame ≡ false → IsAsNear shape.now.frames node.0 result.0 c.frame }
     {
-        self.at(page).nearest(node, shape.frames)
+        self.at(page).nearest(node, shape, dead)
+    }
+
+    /// Whether a page has a frame on a node: its master, or a replica.
+    pub fn is_on(&self, page: Ppn, node: NodeId, shape: &Shape) -> bool
+        requires { page.0 < length self.now.pages }
+        ensures { result ≡ list_any (lies_on shape.now.frames node.0) (copies (page_at self.now.pages page.0)) }
+    {
+        self.at(page).is_on(node, shape.frames)
     }
 
     /// Whether others may hold a page's master too.

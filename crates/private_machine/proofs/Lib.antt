@@ -1,6 +1,7 @@
 pub mod Alignment
 pub mod Turns
 pub mod VcpuLists
+mod TickLemmas
 mod WorkedGuests
 mod WorkedRuns
 mod WorkedFaults

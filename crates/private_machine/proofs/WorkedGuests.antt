@@ -16,7 +16,7 @@ bytes (w ∷ ws) = (w / 2 ^ 24 ∷ w / 2 ^ 16 % 256 ∷ w / 2 ^ 8 % 256 ∷ w % 
 
 -- a guest of 16 pages and so many virtual processors with these bytes at the start of its memory
 abbrev pub guest : ℕ → List ℕ → PrivateMachine
-guest vcpus memory = booted (record { entry = 0xC000_0000; pages = 16; memory = memory }) vcpus [] []
+guest vcpus memory = booted (record { entry = 0xC000_0000; pages = 16; memory = memory }) vcpus 1 [] []
 
 -- the same with one virtual processor and a program of words
 abbrev pub running : List ℕ → List ℕ → PrivateMachine

@@ -10,7 +10,8 @@ use Rattle.private_machine.specs.Backing.{Page, bytes_through, page_at}
 use Rattle.private_machine.specs.Links.{word_offset}
 use Rattle.private_machine.specs.OwnStep.{is_privileged}
 use Rattle.base_words.specs.Memory.{word_at}
-use Rattle.private_machine.specs.Reaching.{Wanted, Lack, NoRange, NoHalf, DeadFrame, NoStore, Sight, Reached, fetch_at, wanted, reached}
+use Rattle.private_machine.specs.RegisterPage.{redirected, opened}
+use Rattle.private_machine.specs.Reaching.{Wanted, Lack, NoRange, NoHalf, DeadFrame, NoStore, Sight, Reached, fetch_at, wanted, reached, is_open_to}
 
 -- why a processor traps, with the access that it wanted; the words are the instruction's, and what is dead is what was reached
 pub data Trap : Type 0 where
@@ -54,9 +55,16 @@ abbrev pub accesses : Sight → ℕ → Reached → Effect → Option Wanted →
 accesses x word fetched does None = Ok (record { fetched = fetched; does = does; data_at = None })
 accesses x word fetched does (Some w) = with_data word w fetched does (reached x w)
 
+abbrev pub asking : Sight → ℕ → Reached → Result Effect Exception → Result Done Trap
+asking x word fetched (Err exception) = Err (Raised exception)
+asking x word fetched (Ok does) = accesses x word fetched does (wanted does.request)
+
+-- where the register page is open, what an instruction asks there is asked of its register
+abbrev pub asks_of : Sight → Effect → Effect
+asks_of x does = record does { request = redirected (is_open_to x) does.request }
+
 abbrev pub executes : Sight → ℕ → Reached → Result Effect Exception → Result Done Trap
-executes x word fetched (Err exception) = Err (Raised exception)
-executes x word fetched (Ok does) = accesses x word fetched does (wanted does.request)
+executes x word fetched does = asking x word fetched (opened (is_open_to x) does)
 
 abbrev pub decodes : Sight → Regs → Reached → ℕ → Result Done Trap
 decodes x regs fetched word =

@@ -1,4 +1,5 @@
 pub mod Vcpu
+pub mod RegisterPage
 pub mod DevicePage
 pub mod DeviceRegisters
 pub mod PrivateMachine
@@ -25,3 +26,4 @@ pub mod Disk
 pub mod DeviceAct
 pub mod StepAct
 pub mod TrapAccess
+pub mod Ticking

@@ -19,7 +19,8 @@ use Rattle.base_words.specs.Coprocessor.{register_at, reads, writes, in_user_mod
 use Rattle.base_words.specs.Place.{place}
 use Rattle.private_machine.specs.Vcpu.{space_of, with_cp0, raising, ticking, system_done}
 use Rattle.private_machine.specs.DeviceRegisters.{with_arrived}
-use Rattle.private_machine.specs.PrivateMachine.{PrivateMachine, vcpu, on_vcpu, left, with_devices, with_input_line}
+use Rattle.private_machine.specs.RegisterPage.{redirected}
+use Rattle.private_machine.specs.PrivateMachine.{PrivateMachine, vcpu, on_vcpu, left, is_open, with_devices, with_input_line}
 use Rattle.private_machine.specs.Access.{loaded, stored, linked_load, conditional_store}
 
 -- where an address of a virtual processor leads
@@ -58,10 +59,10 @@ abbrev pub usable : Bool → Result Effect Exception → Result Effect Exception
 usable true does = does
 usable false does = Err (CoprocessorUnusable 0)
 
--- what the instruction does, and its access
+-- what the instruction does, and its access, which may be of a register
 abbrev pub executed : PrivateMachine → ℕ → Result Effect Exception → Result PrivateMachine Exception
 executed m v (Err x) = Err x
-executed m v (Ok does) = answered m v does.registers does.request
+executed m v (Ok does) = answered m v does.registers (redirected (is_open m v) does.request)
 
 abbrev pub decided : PrivateMachine → ℕ → Result ℕ Exception → Result PrivateMachine Exception
 decided m v (Err x) = Err x

@@ -28,9 +28,9 @@ target_in m = target_of m.change
 abbrev pub held_for : Page → List Copy
 held_for g = copies g ++ option_to_list (option_and_then target_in g.move)
 
--- the frames by which a page ties the guest to cells: all that it holds
+-- the frames by which a page ties the guest to cells: its master, and the target of its move
 abbrev pub used_for : Page → List Copy
-used_for g = held_for g
+used_for g = g.master ∷ option_to_list (option_and_then target_in g.move)
 
 -- pages and spares hold a frame once for each place in which it stands
 abbrev pub held_in : List Page → List Copy → List Copy
@@ -97,3 +97,17 @@ dropped g (GivesShared target) = g.replicas
 -- and with the operation for which a page was taken shared: the master, but an own one becomes a spare
 abbrev pub dropped_taken : Page → List Copy
 dropped_taken g = if g.shared then g.master ∷ g.replicas else g.replicas
+
+-- which frames tie the guest to cells no longer with the end of a move: a master whose place another takes, and a target that becomes a
+-- replica, or is given up
+abbrev pub untied : Page → Change → List Copy
+untied g (Migrates target) = g.master ∷ []
+untied g (Replicates target) = target ∷ []
+untied g Collapses = []
+untied g (Breaks target) = g.master ∷ []
+untied g (TakesShared target) = target ∷ []
+untied g (GivesShared target) = []
+
+-- and with the operation for which a page was taken shared: the master, but an own one becomes a spare
+abbrev pub untied_taken : Page → List Copy
+untied_taken g = if g.shared then g.master ∷ [] else []

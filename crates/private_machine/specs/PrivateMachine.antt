@@ -1,7 +1,8 @@
--- A guest as it sees itself: its pages in one list of bytes, its virtual processors, the device page, and the blocks of its
--- disk, of which there are none where it has no disk.
-use Rattle.std.specs.Prelude.{ℕ, ◌==◌, not, List, Bool, length, slice_index_or, slice_set}
+-- A guest as it sees itself: its pages in one list of bytes, its virtual processors, the device page, the blocks of its disk, of
+-- which there are none where it has no disk, and whether its kernel has a register page.
+use Rattle.std.specs.Prelude.{ℕ, ◌==◌, not, ◌&&◌, List, Bool, length, slice_index_or, slice_set}
 use Rattle.base_words.specs.declared.regs.Regs.{Regs}
+use Rattle.base_words.specs.Coprocessor.{in_user_mode}
 use Rattle.private_machine.specs.declared.vcpu.Vcpu.{Vcpu}
 use Rattle.private_machine.specs.Vcpu.{no_vcpu, with_registers, with_line_on}
 use Rattle.private_machine.specs.DevicePage.{DevicePage}
@@ -12,6 +13,7 @@ pub record PrivateMachine : Type 0 where
   pub vcpus : List Vcpu
   pub devices : DevicePage
   pub disk : List (List ℕ)
+  pub register_page : Bool
 
 abbrev pub vcpu : PrivateMachine → ℕ → Vcpu
 vcpu m v = slice_index_or m.vcpus v no_vcpu
@@ -33,3 +35,7 @@ input_waits d = not (length d.queue == 0)
 
 abbrev pub with_input_line : PrivateMachine → PrivateMachine
 with_input_line m = on_vcpu m 0 (with_line_on 2 (input_waits m.devices))
+
+-- the register page is open to a virtual processor in kernel mode
+abbrev pub is_open : PrivateMachine → ℕ → Bool
+is_open m v = m.register_page && not (in_user_mode (vcpu m v).cp0.status)

@@ -5,6 +5,7 @@ use Rattle.base_words.specs.declared.events.OwnEvent.TheVariants.{Step, Packet}
 use Rattle.base_words.specs.declared.input.InputEntry.{InputEntry}
 use Rattle.private_machine.specs.Vcpu.{started}
 use Rattle.private_machine.specs.DevicePage.{untouched}
+use Rattle.private_machine.specs.RegisterPage.{has_page}
 use Rattle.private_machine.specs.PrivateMachine.{PrivateMachine}
 use Rattle.private_machine.specs.Packet.{own_packet}
 use Rattle.private_machine.specs.OwnStep.{own_step}
@@ -15,14 +16,15 @@ pub record Image : Type 0 where
   pub pages : ℕ
   pub memory : List ℕ
 
--- a guest of so many virtual processors at its start, with the blocks of its disk and its input
-abbrev pub booted : Image → ℕ → List (List ℕ) → List InputEntry → PrivateMachine
-booted image vcpus disk input = record {
+-- a guest of so many virtual processors and of this profile at its start, with the blocks of its disk and its input
+abbrev pub booted : Image → ℕ → ℕ → List (List ℕ) → List InputEntry → PrivateMachine
+booted image vcpus profile disk input = record {
   pages = image.pages;
   memory = image.memory;
   vcpus = replicate vcpus (started image.entry);
   devices = untouched vcpus input;
   disk = disk;
+  register_page = has_page profile;
 }
 
 abbrev pub own_event : PrivateMachine → OwnEvent → PrivateMachine

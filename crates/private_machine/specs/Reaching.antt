@@ -1,6 +1,6 @@
 -- What an access reaches through a processor's TLB (MIPS R4000 User's Manual, chapter 4, "TLB Instructions"; the monitor fills
 -- this TLB with the machine's frames).
-use Rattle.std.specs.Prelude.{ℕ, ◌/◌, ◌%◌, ◌==◌, if◌then◌else◌, Bool, not, ◌&&◌, List, find, Option, Some, None, Result, Ok, Err}
+use Rattle.std.specs.Prelude.{ℕ, ◌/◌, ◌%◌, ◌==◌, if◌then◌else◌, Bool, not, ◌&&◌, List, find, Option, Some, None, Result, Ok, Err, is_some}
 use Rattle.base_words.specs.declared.effect.Request.{Request}
 use Rattle.base_words.specs.declared.effect.Request.TheVariants as asks
 use Rattle.base_words.specs.declared.exception.Use.{Use}
@@ -8,6 +8,7 @@ use Rattle.base_words.specs.declared.exception.Use.TheVariants.{Fetch, Load, Sto
 use Rattle.base_words.specs.Halves.{Half, is_of}
 use Rattle.base_words.specs.Merging.{load_unit, store_unit}
 use Rattle.base_words.specs.Place.{Segment, Mapped, Direct, Outside, segment, is_store}
+use Rattle.private_machine.specs.declared.register_page.RegBlock.{RegBlock}
 
 -- an access: what for, of which its address has to be a multiple, and the address
 pub record Wanted : Type 0 where
@@ -28,9 +29,10 @@ pub data Lack : Type 0 where
   DeadFrame : (at : Reached) → Lack
   NoStore : Lack
 
--- what a processor goes by, beside its registers: mode, ASID, whether an interrupt is enabled and pending, the valid halves
--- of its TLB, and which frames are lost with a failed cell
+-- what a processor goes by, beside its registers: the register page of what runs, if it has one, mode, ASID, whether an interrupt is
+-- enabled and pending, the valid halves of its TLB, and which frames are lost with a failed cell
 pub record Sight : Type 0 where
+  pub block : Option RegBlock
   pub user : Bool
   pub asid : ℕ
   pub line : Bool
@@ -70,3 +72,7 @@ wanted (asks.StoreConditional address value target) = Some (record { purpose = S
 wanted (asks.ReadCp0 number target) = None
 wanted (asks.WriteCp0 number value) = None
 wanted (asks.System op) = None
+
+-- the register page is open: there is one, and no user code runs
+abbrev pub is_open_to : Sight → Bool
+is_open_to x = is_some x.block && not x.user

@@ -16,7 +16,8 @@ use Rattle.base_words.specs.declared.effect.Request.TheVariants as asks
 use Rattle.private_machine.specs.DevicePage.{transfer_of}
 use Rattle.base_words.specs.declared.device.Transfer.{Transfer}
 use Rattle.base_words.specs.Instruction.{Effect, effect}
-use Rattle.private_machine.specs.PrivateMachine.{PrivateMachine, vcpu}
+use Rattle.private_machine.specs.PrivateMachine.{PrivateMachine, vcpu, is_open}
+use Rattle.private_machine.specs.RegisterPage.{redirected}
 use Rattle.private_machine.specs.OwnStep.{led, fetched, is_usable, usable}
 
 abbrev pub stores_at : PrivateMachine → Transfer → StoreKind → ℕ → Result Place Exception → Act
@@ -53,7 +54,7 @@ act_of m v (asks.System op) = system_act m v op
 
 abbrev pub act_executed : PrivateMachine → ℕ → Result Effect Exception → Act
 act_executed m v (Err x) = NoAct
-act_executed m v (Ok does) = act_of m v does.request
+act_executed m v (Ok does) = act_of m v (redirected (is_open m v) does.request)
 
 abbrev pub act_decided : PrivateMachine → ℕ → Result ℕ Exception → Act
 act_decided m v (Err x) = NoAct

@@ -88,6 +88,28 @@ vcpu = 0
 steps = 1000
 ";
 
+pub(crate) const REGISTERS_DESCRIPTION: &str =
+    "# One guest of profile 2, a kernel with a user program: seven pages.
+[machine]
+nodes = 1
+frames = 8
+processors = [0]
+
+[[guest]]
+image = \"examples/registers/guest.elf\"
+pages = 7
+vcpus = 1
+node = 0
+profile = 2
+
+[[work]]
+act = \"run\"
+processor = 0
+guest = 0
+vcpu = 0
+steps = 1000
+";
+
 pub(crate) const DISK_DESCRIPTION: &str =
     "# One guest with a disk of one block. The block begins with the bytes of disk.img, and zeros follow.
 [machine]

@@ -1,11 +1,12 @@
 //! The programs of the folder `examples` at the top of the repository, each with its description and with the report that it has there.
 use crate::example_descriptions::{
     DISK_DESCRIPTION, HELLO_DESCRIPTION, INPUT_DESCRIPTION, KERNEL_DESCRIPTION, LOANS_DESCRIPTION,
-    MIGRATE_DESCRIPTION, PACKETS_DESCRIPTION, REPLICATE_DESCRIPTION, TIMER_DESCRIPTION,
-    TWO_GUESTS_DESCRIPTION,
+    MIGRATE_DESCRIPTION, PACKETS_DESCRIPTION, REGISTERS_DESCRIPTION, REPLICATE_DESCRIPTION,
+    TIMER_DESCRIPTION, TWO_GUESTS_DESCRIPTION,
 };
 use crate::example_images::{
-    ANSWERS, ASKS, DISK, DIVIDES, HELLO, INPUT, KERNEL, LETTERS, LOANS, MIGRATE, REPLICATE, TIMER,
+    ANSWERS, ASKS, DISK, DIVIDES, HELLO, INPUT, KERNEL, LETTERS, LOANS, MIGRATE, REGISTERS,
+    REPLICATE, TIMER,
 };
 use crate::sharing_examples::{
     CHANGES_THE_BLOCK, PRINTS_THE_PAGE, READS_THE_BLOCK, SENDS_THE_PAGE, SHARED_DISK_DESCRIPTION,
@@ -21,8 +22,11 @@ use std::process::Abort;
 use std::sync::Wait;
 use std::thread::Threads;
 
-/// The name of an image, and its parts.
-type Image<'a> = (&'a str, &'a [Part<'a>]);
+/// The name of an image, where it begins, and its parts.
+type Image<'a> = (&'a str, u32, &'a [Part<'a>]);
+
+/// Where most of them begin: at the beginning of the guest's memory.
+const START: u32 = 0xC000_0000;
 
 /// An example: its files, and what is to be printed under the monitor, with which status, and by its guests alone.
 #[derive(Clone, Copy)]
@@ -36,20 +40,20 @@ struct Example<'a> {
     alone: &'a str,
 }
 
-/// The headers of an image of one segment of so many bytes, which begins and lies at C0000000 (ELF specification).
+/// The headers of an image of one segment of so many bytes, which lies at C0000000 (ELF specification).
 #[rattlefmt::skip]
-fn headers(count: u32) -> [u32; 21] {
+fn headers(entry: u32, count: u32) -> [u32; 21] {
     [
-        0x7F454C46, 0x01020100, 0, 0, 0x00020008, 1, 0xC0000000, 52, 0, 0, 0x00340020, 0x00010000, 0,
+        0x7F454C46, 0x01020100, 0, 0, 0x00020008, 1, entry, 52, 0, 0, 0x00340020, 0x00010000, 0,
         1, 84, 0xC0000000, 0, count, count, 7, 4096,
     ]
 }
 
 /// The image of an example's words, which are no more than 16 pages.
-fn image_of(rt: &impl Abort, alloc: Global, parts: &[Part]) -> Vec<u8> {
+fn image_of(rt: &impl Abort, alloc: Global, entry: u32, parts: &[Part]) -> Vec<u8> {
     let words = must(rt, file_of_parts(alloc, parts));
     let count = words.len().min(0x1_0000) as u32;
-    let mut image = must(rt, file_of_parts(alloc, &[(0, &headers(count))]));
+    let mut image = must(rt, file_of_parts(alloc, &[(0, &headers(entry, count))]));
     must(rt, image.extend_from_slice(&words));
     image
 }
@@ -65,11 +69,9 @@ fn shelf_of(rt: &impl Abort, alloc: Global, example: &Example) -> MemShelf {
         rt,
         files.push(must(rt, held(alloc, "machine.toml", description))),
     );
-    for (name, parts) in example.images {
-        must(
-            rt,
-            files.push(must(rt, held(alloc, *name, image_of(rt, alloc, *parts)))),
-        );
+    for (name, entry, parts) in example.images {
+        let image = image_of(rt, alloc, *entry, *parts);
+        must(rt, files.push(must(rt, held(alloc, *name, image))));
     }
     for name in DISKS {
         must(
@@ -119,7 +121,7 @@ fn examples_print_what_they_should(rt: HostRuntime) {
         Example {
             about: "hello",
             description: HELLO_DESCRIPTION,
-            images: &[("examples/hello/guest.elf", HELLO)],
+            images: &[("examples/hello/guest.elf", START, HELLO)],
             disk: &[],
             status: 0,
             monitored: "guest 0 console 12\nHello, world\nend halted\nsums steps 68 refills 1 moves 0 skips 0 breaks 0 shared 0 received 0 discarded 0\n",
@@ -128,7 +130,7 @@ fn examples_print_what_they_should(rt: HostRuntime) {
         Example {
             about: "timer",
             description: TIMER_DESCRIPTION,
-            images: &[("examples/timer/guest.elf", TIMER)],
+            images: &[("examples/timer/guest.elf", START, TIMER)],
             disk: &[],
             status: 0,
             monitored: "guest 0 console 6\n12345.\nend halted\nsums steps 513 refills 1 moves 0 skips 0 breaks 0 shared 0 received 0 discarded 0\n",
@@ -137,16 +139,25 @@ fn examples_print_what_they_should(rt: HostRuntime) {
         Example {
             about: "kernel",
             description: KERNEL_DESCRIPTION,
-            images: &[("examples/kernel/guest.elf", KERNEL)],
+            images: &[("examples/kernel/guest.elf", START, KERNEL)],
             disk: &[],
             status: 0,
             monitored: "guest 0 console 14\nabcd\nrefills 2\nend halted\nsums steps 220 refills 7 moves 0 skips 0 breaks 0 shared 0 received 0 discarded 0\n",
             alone: "guest 0 console 14\nabcd\nrefills 2\nend halted\n",
         },
         Example {
+            about: "registers",
+            description: REGISTERS_DESCRIPTION,
+            images: &[("examples/registers/guest.elf", 0xC000_0320, REGISTERS)],
+            disk: &[],
+            status: 0,
+            monitored: "guest 0 console 14\nabcd\nrefills 2\nend halted\nsums steps 218 refills 7 moves 0 skips 0 breaks 0 shared 0 received 0 discarded 0\n",
+            alone: "guest 0 console 14\nabcd\nrefills 2\nend halted\n",
+        },
+        Example {
             about: "disk",
             description: DISK_DESCRIPTION,
-            images: &[("examples/disk/guest.elf", DISK)],
+            images: &[("examples/disk/guest.elf", START, DISK)],
             disk: b"disco",
             status: 0,
             monitored: "guest 0 console 13\ndisco DISCO 1\nend halted\nsums steps 121 refills 3 moves 0 skips 0 breaks 0 shared 0 received 0 discarded 0\n",
@@ -155,7 +166,7 @@ fn examples_print_what_they_should(rt: HostRuntime) {
         Example {
             about: "input",
             description: INPUT_DESCRIPTION,
-            images: &[("examples/input/guest.elf", INPUT)],
+            images: &[("examples/input/guest.elf", START, INPUT)],
             disk: &[],
             status: 0,
             monitored: "guest 0 console 18\ndisco never stops.\nend halted\nsums steps 184 refills 1 moves 0 skips 0 breaks 0 shared 0 received 0 discarded 0\n",
@@ -165,8 +176,8 @@ fn examples_print_what_they_should(rt: HostRuntime) {
             about: "two_guests",
             description: TWO_GUESTS_DESCRIPTION,
             images: &[
-                ("examples/two_guests/guest0.elf", LETTERS),
-                ("examples/two_guests/guest1.elf", DIVIDES),
+                ("examples/two_guests/guest0.elf", START, LETTERS),
+                ("examples/two_guests/guest1.elf", START, DIVIDES),
             ],
             disk: &[],
             status: 0,
@@ -176,7 +187,7 @@ fn examples_print_what_they_should(rt: HostRuntime) {
         Example {
             about: "loans",
             description: LOANS_DESCRIPTION,
-            images: &[("examples/loans/guest.elf", LOANS)],
+            images: &[("examples/loans/guest.elf", START, LOANS)],
             disk: &[],
             status: 0,
             monitored: "guest 0 console 6\nfedcba\nend halted\nsums steps 74 refills 6 moves 0 skips 0 breaks 0 shared 0 received 0 discarded 0\n",
@@ -185,7 +196,7 @@ fn examples_print_what_they_should(rt: HostRuntime) {
         Example {
             about: "migrate",
             description: MIGRATE_DESCRIPTION,
-            images: &[("examples/migrate/guest.elf", MIGRATE)],
+            images: &[("examples/migrate/guest.elf", START, MIGRATE)],
             disk: &[],
             status: 0,
             monitored: "guest 0 console 10\n123456789\n\nend halted\nsums steps 71 refills 6 moves 2 skips 2 breaks 0 shared 0 received 0 discarded 0\n",
@@ -194,7 +205,7 @@ fn examples_print_what_they_should(rt: HostRuntime) {
         Example {
             about: "replicate",
             description: REPLICATE_DESCRIPTION,
-            images: &[("examples/replicate/guest.elf", REPLICATE)],
+            images: &[("examples/replicate/guest.elf", START, REPLICATE)],
             disk: &[],
             status: 0,
             monitored: "guest 0 console 1\nH\nend halted\nsums steps 105 refills 10 moves 4 skips 0 breaks 0 shared 0 received 0 discarded 0\n",
@@ -204,8 +215,8 @@ fn examples_print_what_they_should(rt: HostRuntime) {
             about: "packets",
             description: PACKETS_DESCRIPTION,
             images: &[
-                ("examples/packets/guest0.elf", ASKS),
-                ("examples/packets/guest1.elf", ANSWERS),
+                ("examples/packets/guest0.elf", START, ASKS),
+                ("examples/packets/guest1.elf", START, ANSWERS),
             ],
             disk: &[],
             status: 0,
@@ -228,8 +239,8 @@ fn examples_that_share_print_what_they_should(rt: HostRuntime) {
             about: "shared_disk",
             description: SHARED_DISK_DESCRIPTION,
             images: &[
-                ("examples/shared_disk/guest0.elf", READS_THE_BLOCK),
-                ("examples/shared_disk/guest1.elf", CHANGES_THE_BLOCK),
+                ("examples/shared_disk/guest0.elf", START, READS_THE_BLOCK),
+                ("examples/shared_disk/guest1.elf", START, CHANGES_THE_BLOCK),
             ],
             disk: b"disco",
             status: 0,
@@ -240,8 +251,8 @@ fn examples_that_share_print_what_they_should(rt: HostRuntime) {
             about: "whole_packets",
             description: WHOLE_PACKETS_DESCRIPTION,
             images: &[
-                ("examples/whole_packets/guest0.elf", SENDS_THE_PAGE),
-                ("examples/whole_packets/guest1.elf", PRINTS_THE_PAGE),
+                ("examples/whole_packets/guest0.elf", START, SENDS_THE_PAGE),
+                ("examples/whole_packets/guest1.elf", START, PRINTS_THE_PAGE),
             ],
             disk: &[],
             status: 0,

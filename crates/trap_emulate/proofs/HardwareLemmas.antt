@@ -1,5 +1,5 @@
 -- What a trap of the hardware's step tells of the virtual processor.
-use Rattle.std.proofs.Common.{◌≡◌, ◌≢◌, ℕ, ◌/◌, ◌%◌, ◌==◌, Bool, true, false, not, ◌&&◌, if◌then◌else◌, Option, Some, None, Result, Ok, Err, List, refl, ap, subst}
+use Rattle.std.proofs.Common.{◌≡◌, ◌≢◌, ℕ, ◌/◌, ◌%◌, ◌==◌, Bool, true, false, not, ◌&&◌, if◌then◌else◌, Option, Some, None, Result, Ok, Err, List, refl, ap, ◌∙◌, subst}
 use Rattle.std.specs.Prelude.{find}
 use Rattle.base_words.specs.declared.exception.Exception.{Exception}
 use Rattle.base_words.specs.declared.exception.Exception.TheVariants.{AddressError}
@@ -9,10 +9,11 @@ use Rattle.base_words.specs.Instruction.{Effect, effect}
 use Rattle.base_words.specs.OpcodeMap.{decoded}
 use Rattle.base_words.specs.Place.{AddressSpace, Segment, Mapped, Direct, Outside, segment, is_store, translated, place}
 use Rattle.private_machine.specs.Backing.{Page}
-use Rattle.private_machine.specs.HardwareStep.{Trap, Line, FetchMiss, DataMiss, ReadOnly, Address, Privileged, Raised, Dead, Done, fetch_trap, data_trap, word_through, with_data, accesses, executes, fetches, hardware_step}
+use Rattle.private_machine.specs.HardwareStep.{Trap, Line, FetchMiss, DataMiss, ReadOnly, Address, Privileged, Raised, Dead, Done, fetch_trap, data_trap, word_through, with_data, asks_of, accesses, executes, fetches, hardware_step}
 use Rattle.private_machine.specs.OwnStep.{is_privileged}
-use Rattle.private_machine.specs.Reaching.{Wanted, Lack, NoRange, NoHalf, DeadFrame, NoStore, Sight, Reached, at_half, through_half, in_segment, reached, fetch_at, wanted}
+use Rattle.private_machine.specs.Reaching.{Wanted, Lack, NoRange, NoHalf, DeadFrame, NoStore, Sight, Reached, at_half, through_half, in_segment, reached, fetch_at, wanted, is_open_to}
 use Rattle.private_machine.specs.TrapAccess.{is_memory, asked_by}
+use Rattle.trap_emulate.proofs.PageLemmas.{plain-wanted}
 
 -- an instruction that isn't of coprocessor 0 asks for this access
 pub record AsksAt (regs : Regs) (word : ℕ) (w : Wanted) : Type 0 where
@@ -106,13 +107,13 @@ told x pages regs trap e = line x.line refl e
     reaches word at does w (Err lack) off here is e = is-it (data_trap word w lack) e (data-told x regs word w lack off is here)
     reaches word at does w (Ok there) off here is e = cc
 
-    asks : (word : ℕ) (at : Reached) (does : Effect) (o : Option Wanted) → x.line ≡ false → is_privileged word ≡ false → asked_by (effect (decoded word) regs) ≡ o → accesses x word at does o ≡ Err trap → Told x regs trap
+    asks : (word : ℕ) (at : Reached) (does : Effect) (o : Option Wanted) → x.line ≡ false → is_privileged word ≡ false → ((w : Wanted) → o ≡ Some w → asked_by (effect (decoded word) regs) ≡ Some w) → accesses x word at does o ≡ Err trap → Told x regs trap
     asks word at does None off plain is e = cc
-    asks word at does (Some w) off plain is e = reaches word at does w (reached x w) off refl (record { is_plain = plain; asked = is }) e
+    asks word at does (Some w) off plain is e = reaches word at does w (reached x w) off refl (record { is_plain = plain; asked = is w refl }) e
 
     does-it : (word : ℕ) (at : Reached) (r : Result Effect Exception) → x.line ≡ false → is_privileged word ≡ false → effect (decoded word) regs ≡ r → executes x word at r ≡ Err trap → Told x regs trap
     does-it word at (Err y) off plain is e = is-it (Raised y) e off
-    does-it word at (Ok does) off plain is e = asks word at does (wanted does.request) off plain (ap asked_by is) e
+    does-it word at (Ok does) off plain is e = asks word at (asks_of x does) (wanted (asks_of x does).request) off plain (λ w got. ap asked_by is ∙ plain-wanted (is_open_to x) does.request w got) e
 
     decides : (word : ℕ) (at : Reached) (b : Bool) → x.line ≡ false → is_privileged word ≡ b → (if b then Err (Privileged word) else executes x word at (effect (decoded word) regs)) ≡ Err trap → Told x regs trap
     decides word at true off plain e = is-it (Privileged word) e (off, plain)

@@ -40,8 +40,8 @@ joined-entry m v = elim (v == 0) as (λ (b : Bool). held_entry (vcpu (if b then 
   | false ↦ refl
 ]
 
-pub joined-at-hand : (m : PrivateMachine) (v : ℕ) → AtHand (joined m v) v (vcpu m v) m.pages
-joined-at-hand m v = elim (v == 0) as (λ (b : Bool). AtHand (if b then input_joined m else m) v (vcpu m v) m.pages) [
-  | true ↦ let on = input_waits (with_arrived (vcpu m 0).steps m.devices) in record { space = space-line m.vcpus v on; registers = registers-line m.vcpus v on; of_pages = refl }
-  | false ↦ record { space = refl; registers = refl; of_pages = refl }
+pub joined-at-hand : (m : PrivateMachine) (v : ℕ) → m.register_page ≡ false → AtHand (joined m v) v (vcpu m v) m.pages
+joined-at-hand m v closed = elim (v == 0) as (λ (b : Bool). AtHand (if b then input_joined m else m) v (vcpu m v) m.pages) [
+  | true ↦ let on = input_waits (with_arrived (vcpu m 0).steps m.devices) in record { space = space-line m.vcpus v on; registers = registers-line m.vcpus v on; of_pages = refl; closed = closed }
+  | false ↦ record { space = refl; registers = refl; of_pages = refl; closed = closed }
 ]

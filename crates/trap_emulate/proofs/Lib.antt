@@ -5,6 +5,7 @@ pub mod FitLemmas
 pub mod HardwareLemmas
 pub mod JoinLemmas
 pub mod MakeLemmas
+pub mod PageLemmas
 pub mod StepLemmas
 pub mod TrapLemmas
 pub mod TryLemmas

@@ -1,5 +1,5 @@
 -- What is decided of a step, of the guest's private machine.
-use Rattle.std.proofs.Common.{◌≡◌, ℕ, ◌<◌, [], List, length, get_or, set, Option, Result, ap, ◌∙◌, subst}
+use Rattle.std.proofs.Common.{◌≡◌, ℕ, ◌<◌, [], List, length, get_or, set, Option, Result, refl, ap, ◌∙◌, subst}
 use Rattle.std.proofs.lemmas.List.{get_or_default, set-get_or}
 use Rattle.base_words.specs.declared.moves.MoveKind.{MoveKind}
 use Rattle.base_words.specs.declared.trap.TrapCause.{TrapCause}
@@ -30,7 +30,7 @@ pub step-expects : (pages : ℕ) (vcpus : List Vcpu) (page : DevicePage) (v : �
     → v < length vcpus → IsTrap (joined (machine_of pages vcpus page [] []) v) v needs cause → Expects (get_or vcpus v kept) pages needs cause
 step-expects pages vcpus page v needs cause kept there it =
     let m = machine_of pages vcpus page [] [] in
-    subst (λ (c : Vcpu). Expects c pages needs cause) (get_or_default vcpus v no_vcpu kept there) (expects (joined m v) v (vcpu m v) pages needs cause (joined-at-hand m v) it)
+    subst (λ (c : Vcpu). Expects c pages needs cause) (get_or_default vcpus v no_vcpu kept there) (expects (joined m v) v (vcpu m v) pages needs cause (joined-at-hand m v refl) it)
 
 -- what is decided is right for the machine whose input has joined
 pub step-means : (pages : ℕ) (vcpus : List Vcpu) (page : DevicePage) (memory : List ℕ) (disk : List (List ℕ)) (v : ℕ) (needs : Option MoveKind) (cause : TrapCause) (kept : Vcpu) (decision : Decision)
@@ -38,7 +38,7 @@ pub step-means : (pages : ℕ) (vcpus : List Vcpu) (page : DevicePage) (memory :
     → let j = joined (machine_of pages vcpus page memory disk) v in HoldsWord j v cause → Means j v (needed_for needs cause) (tried j v) (act_next j v) decision
 step-means pages vcpus page memory disk v needs cause kept decision there it decides holds =
     let m = machine_of pages vcpus page memory disk in
-    let at = subst (λ (c : Vcpu). AtHand (joined m v) v c pages) (get_or_default vcpus v no_vcpu kept there) (joined-at-hand m v) in
+    let at = subst (λ (c : Vcpu). AtHand (joined m v) v c pages) (get_or_default vcpus v no_vcpu kept there) (joined-at-hand m v refl) in
     decides (joined m v) v at (line-told (joined m v) v needs cause (trap-anywhere pages vcpus page [] memory [] disk v needs cause it)) holds
 
 -- one that is put back as it was changes nothing

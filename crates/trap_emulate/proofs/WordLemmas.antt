@@ -7,7 +7,7 @@ use Rattle.base_words.specs.declared.trap.TrapCause.{TrapCause}
 use Rattle.base_words.specs.Instruction.{Effect, effect}
 use Rattle.base_words.specs.OpcodeMap.{decoded}
 use Rattle.private_machine.specs.Backing.{Page}
-use Rattle.private_machine.specs.HardwareStep.{Trap, Line, Privileged, Raised, Done, fetch_trap, data_trap, cause_of, word_through, with_data, accesses, executes, fetches, hardware_step}
+use Rattle.private_machine.specs.HardwareStep.{Trap, Line, Privileged, Raised, Done, fetch_trap, data_trap, cause_of, word_through, with_data, asks_of, accesses, executes, fetches, hardware_step}
 use Rattle.private_machine.specs.OwnStep.{fetched, is_privileged}
 use Rattle.private_machine.specs.PrivateMachine.{PrivateMachine, vcpu}
 use Rattle.private_machine.specs.Reaching.{Wanted, Lack, NoRange, NoHalf, DeadFrame, NoStore, Sight, Reached, reached, fetch_at, wanted}
@@ -48,7 +48,7 @@ by-trap m v x backing trap alike e = line x.line e
 
     does-it : (word : ℕ) (at : Reached) (r : Result Effect Exception) → fetched m v ≡ Ok word → is_privileged word ≡ false → effect (decoded word) regs ≡ r → executes x word at r ≡ Err trap → HoldsWord m v (cause_of trap)
     does-it word at (Err y) holds plain is e = is-it (Raised y) e (record { word = word; is_there = holds; unprivileged = plain; raises = is })
-    does-it word at (Ok does) holds plain is e = asks word at does (wanted does.request) holds e
+    does-it word at (Ok does) holds plain is e = asks word at (asks_of x does) (wanted (asks_of x does).request) holds e
 
     decides : (word : ℕ) (at : Reached) (b : Bool) → fetched m v ≡ Ok word → is_privileged word ≡ b → (if b then Err (Privileged word) else executes x word at (effect (decoded word) regs)) ≡ Err trap → HoldsWord m v (cause_of trap)
     decides word at true holds plain e = is-it (Privileged word) e holds

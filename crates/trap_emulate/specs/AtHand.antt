@@ -72,3 +72,4 @@ pub record AtHand (m : PrivateMachine) (v : ℕ) (c : Vcpu) (pages : ℕ) : Type
   pub space : space_of (vcpu m v) ≡ space_of c
   pub registers : (vcpu m v).registers ≡ c.registers
   pub of_pages : m.pages ≡ pages
+  pub closed : m.register_page ≡ false

@@ -7,9 +7,9 @@ use Rattle.private_machine.specs.Vcpu.{no_vcpu}
 use Rattle.private_machine.specs.DevicePage.{DevicePage}
 use Rattle.private_machine.specs.PrivateMachine.{PrivateMachine}
 
--- the private machine of these parts, with some memory and some disk
+-- the private machine of these parts, with some memory and some disk; of a guest without register pages
 abbrev pub machine_of : (pages : ℕ) → List Vcpu → DevicePage → (memory : List ℕ) → (disk : List (List ℕ)) → PrivateMachine
-machine_of pages vcpus page memory disk = record { pages = pages; memory = memory; vcpus = vcpus; devices = page; disk = disk }
+machine_of pages vcpus page memory disk = record { pages = pages; memory = memory; vcpus = vcpus; devices = page; disk = disk; register_page = false }
 
 -- the devices are those of these pages and virtual processors, which show what the devices keep
 pub record Fits (pages : ℕ) (vcpus : List Vcpu) (devices : DeviceState) : Type 0 where

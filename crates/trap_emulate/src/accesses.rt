@@ -87,6 +87,7 @@ fn access(vcpu: &Vcpu, pages: u32, needs: Option<MoveKind>, request: Request) ->
 }
 
 /// The data access of an instruction that isn't of coprocessor 0. Nothing changes.
+#[tactic(auto, using(crate::proofs::PageLemmas::closed_request))]
 pub fn data_access(vcpu: &mut Vcpu, pages: u32, needs: Option<MoveKind>, word: u32) -> Decision
     requires { Asks vcpu.old pages needs word }
     ensures same { vcpu.new ≡ vcpu.old }

@@ -53,6 +53,7 @@ fn coprocessor_deed(request: Request) -> Deed
 }
 
 /// An instruction of coprocessor 0, also a reserved one, which user code may not use. Nothing changes.
+#[tactic(auto, using(crate::proofs::PageLemmas::closed_request))]
 fn privileged(vcpu: &mut Vcpu, word: u32) -> Deed
     requires { is_privileged word ≡ true }
     ensures same { vcpu.new ≡ vcpu.old }

@@ -1,6 +1,7 @@
 -- For callers: the passes of a guest's list are of these wires, and whose.
-use Rattle.std.proofs.Common.{◌≡◌, ℕ, zero, suc, List, [], ◌∷◌, get_or, IsSome, is_some, Option, Some, None, refl, sym, ap, ◌∙◌}
-use Rattle.std.proofs.lemmas.Bool.{false≢true}
+use Rattle.std.proofs.Common.{◌≡◌, ◌==◌, ◌<◌, if◌then◌else◌, ℕ, zero, suc, Bool, true, false, List, [], ◌∷◌, length, get_or, set, IsSome, is_some, Option, Some, None, refl, sym, ap, ◌∙◌, arith}
+use Rattle.std.proofs.lemmas.Bool.{false≢true, eqb-true, eqb-false}
+use Rattle.std.proofs.lemmas.List.{get_or-set_same, get_or-set_other}
 use Rattle.std.proofs.lemmas.Option.{same_Some, none-some}
 use Rattle.std.specs.Option.{option_map}
 use Rattle.wire_queue.specs.QueueIds.{QueueId}
@@ -45,3 +46,17 @@ both_ends wires receiver sender of from there =
     ∙ ap is_some (from.sends receiver.guest.0 ∙ sym (of.takes sender.guest.0))
     ∙ some_wire (λ (p : Taking). p.wire) (taking_from receiver sender.guest.0)
     ∙ there
+
+-- a place that has something is there
+pub some-within : {A : Type 0} (l : List (Option A)) (n : ℕ) → IsSome (get_or l n None) → n < length l
+some-within [] n some = absurd (false≢true some)
+some-within (x ∷ l) zero some = omega arith
+some-within (x ∷ l) (suc n) some = let below = some-within l n some in omega (arith, below)
+
+-- one count is another, and the others stay
+pub counted : (asks : List ℕ) (from n other : ℕ) → from < length asks → get_or (set asks from n) other 0 ≡ (if other == from then n else get_or asks other 0)
+counted asks from n other lt = by (other == from) refl
+  where
+    by : (b : Bool) → (other == from) ≡ b → get_or (set asks from n) other 0 ≡ (if b then n else get_or asks other 0)
+    by true e = ap (λ (k : ℕ). get_or (set asks from n) k 0) (eqb-true other from e) ∙ get_or-set_same asks from n 0 lt
+    by false e = get_or-set_other asks from other n 0 (eqb-false other from e)

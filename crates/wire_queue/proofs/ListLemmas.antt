@@ -1,11 +1,11 @@
 -- From the tables of all ends to each guest's list, and back.
 use Rattle.std.proofs.Common.{◌≡◌, ℕ, ◌<◌, List, [], Option, Some, None, IfSome, All, length, get_or, slice_index, refl, sym, ap, ◌∙◌, subst, arith}
-use Rattle.std.proofs.lemmas.List.{get_or-map}
+use Rattle.std.proofs.lemmas.List.{get_or-map, get_or-replicate}
 use Rattle.wire_queue.specs.QueueIds.{QueueId}
 use Rattle.wire_queue.specs.declared.terms.Terms.{Terms}
 use Rattle.wire_queue.specs.Ends.{Sending, Taking}
 use Rattle.wire_queue.specs.Between.{Made, wire_between}
-use Rattle.wire_queue.specs.PassTables.{sends_of, takes_of, guests_of}
+use Rattle.wire_queue.specs.PassTables.{sends_of, takes_of, guests_of, asks_kept}
 use Rattle.wire_queue.specs.PassLists.{sending_wire, taking_wire, sending_to, taking_from, IsListOf, AreAllOf, IsUnused}
 use Rattle.wire_queue.specs.Making.{AreMade}
 use Rattle.wire_queue.specs.declared.lists.PassList.{PassList}
@@ -25,6 +25,9 @@ takes_at l k d within = get_or-map (λ (list : PassList). list.takes.items) l k 
 pub guest_at : (l : List PassList) (k : ℕ) (d : PassList) → k < length l → slice_index (guests_of l) k ≡ (get_or l k d).guest.0
 guest_at l k d within = get_or-map (λ (list : PassList). list.guest.0) l k d 0 within
 
+pub asks_at : (l : List PassList) (k : ℕ) (d : PassList) → k < length l → get_or (asks_kept l) k 0 ≡ length (get_or l k d).asks.items
+asks_at l k d within = get_or-map (λ (list : PassList). length list.asks.items) l k d 0 within
+
 pub list_of : (n : ℕ) (terms : Terms) (q : List (List (Option QueueId))) (l : List PassList) → AreMade n terms q l → All (IsListOf (record { queues = q; terms = terms })) l
 list_of n terms q l made k d within =
     let wires : Made = record { queues = q; terms = terms } in
@@ -33,6 +36,7 @@ list_of n terms q l made k d within =
     let own : k ≡ (get_or l k d).guest.0 = sym (made.numbered k here) ∙ guest_at l k d within in record {
       sends_all = ap length (sym (sends_at l k d within)) ∙ made.sends_all.places_all k here ∙ sym queues;
       takes_all = ap length (sym (takes_at l k d within)) ∙ made.takes_all.places_all k here ∙ sym queues;
+      asks_all = sym (asks_at l k d within) ∙ ap (λ (r : List ℕ). get_or r k 0) made.asks_all ∙ get_or-replicate n k n 0 here ∙ sym queues;
       sends = λ other. ap (λ (r : List (Option Sending)). sending_wire (get_or r other None)) (sym (sends_at l k d within)) ∙ made.sends k other ∙ ap (λ x. wire_between wires x other) own;
       takes = λ other. ap (λ (r : List (Option Taking)). taking_wire (get_or r other None)) (sym (takes_at l k d within)) ∙ made.takes other k ∙ ap (λ x. wire_between wires other x) own;
     }

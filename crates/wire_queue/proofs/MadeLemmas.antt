@@ -7,7 +7,7 @@ use Rattle.wire_queue.specs.QueueIds.{QueueId}
 use Rattle.wire_queue.specs.declared.terms.Terms.{Terms}
 use Rattle.wire_queue.specs.Ends.{Sending, Taking}
 use Rattle.wire_queue.specs.Between.{entry, wire_between}
-use Rattle.wire_queue.specs.PassTables.{sends_of, takes_of, guests_of, IsSquare}
+use Rattle.wire_queue.specs.PassTables.{sends_of, takes_of, guests_of, asks_kept, IsSquare}
 use Rattle.wire_queue.specs.PassLists.{sending_wire, taking_wire}
 use Rattle.wire_queue.specs.Making.{AreMade, IsConnected, MadeBelow, MadeTo}
 use Rattle.wire_queue.specs.declared.lists.PassList.{PassList}
@@ -20,12 +20,13 @@ Queues = List (List (Option QueueId))
 nothing_there : {A : Type 0} (n : ℕ) (rows : List (List (Option A))) (i j : ℕ) → rows ≡ replicate n (replicate n None) → entry rows i j ≡ None
 nothing_there n rows i j none = ap (λ r. entry r i j) none ∙ entry-replicate n n i j
 
-pub none_made : (n : ℕ) (terms : Terms) (q : Queues) (l : List PassList) → q ≡ replicate n (replicate n None) → sends_of l ≡ replicate n (replicate n None) → takes_of l ≡ replicate n (replicate n None)
+pub none_made : (n : ℕ) (terms : Terms) (q : Queues) (l : List PassList) → q ≡ replicate n (replicate n None) → sends_of l ≡ replicate n (replicate n None) → takes_of l ≡ replicate n (replicate n None) → asks_kept l ≡ replicate n n
     → ((g : ℕ) → g < n → slice_index (guests_of l) g ≡ g) → AreMade n terms q l
-none_made n terms q l queues sends takes numbered = record {
+none_made n terms q l queues sends takes asks numbered = record {
   queues_all = subst (IsSquare n) (sym queues) (square-replicate n);
   sends_all = subst (IsSquare n) (sym sends) (square-replicate n);
   takes_all = subst (IsSquare n) (sym takes) (square-replicate n);
+  asks_all = asks;
   numbered = numbered;
   sends = λ f t. ap sending_wire (nothing_there n (sends_of l) f t sends) ∙ sym (ap (option_map (λ queue. record { queue = queue; line = record { from = f; to = t; terms = terms } })) (nothing_there n q f t queues));
   takes = λ f t. ap taking_wire (nothing_there n (takes_of l) t f takes) ∙ sym (ap (option_map (λ queue. record { queue = queue; line = record { from = f; to = t; terms = terms } })) (nothing_there n q f t queues));
@@ -90,6 +91,7 @@ module _ (n : ℕ) (terms : Terms) (q q' : Queues) (l l' : List PassList) (from 
     queues_all = subst (IsSquare n) (sym is.queues) (square-with_entry n q from to (Some is.wire.queue) made.queues_all);
     sends_all = subst (IsSquare n) (sym is.sends) (square-with_entry n (sends_of l) from to _ made.sends_all);
     takes_all = subst (IsSquare n) (sym is.takes) (square-with_entry n (takes_of l) to from _ made.takes_all);
+    asks_all = is.asks ∙ made.asks_all;
     numbered = λ g lt. ap (λ x. slice_index x g) is.guests ∙ made.numbered g lt;
     sends = λ f t. at_both (λ x y. sending_wire (entry (sends_of l') x y) ≡ wire_between (record { queues = q'; terms = terms }) x y) f t
         (ap sending_wire send_here ∙ wire_here) (λ apart. ap sending_wire (send_other f t apart) ∙ made.sends f t ∙ sym (wire_other f t apart));

@@ -1,15 +1,18 @@
 -- What a guest's calls on its passes answer, and what they leave.
-use Rattle.std.specs.Prelude.{◌≡◌, ◌≢◌, ◌↔◌, ℕ, ◌+◌, ◌-◌, ◌≤◌, ◌^◌, min, Bool, IsTrue, Option, Some}
+use Rattle.std.specs.Prelude.{◌≡◌, ◌≢◌, ◌↔◌, ℕ, ◌+◌, ◌-◌, ◌≤◌, ◌^◌, ◌==◌, if◌then◌else◌, min, Bool, true, IsTrue, Option, Some}
 use Rattle.wire_queue.specs.Ends.{Sending, Taking}
 use Rattle.wire_queue.specs.Steps.{SentBy, TakenBy, AreFirstOf}
-use Rattle.wire_queue.specs.PassLists.{sending_to, taking_from}
+use Rattle.wire_queue.specs.PassLists.{sending_to, taking_from, asks_of}
 use Rattle.wire_queue.specs.declared.packet.WirePacket.{WirePacket}
 use Rattle.wire_queue.specs.declared.lists.PassList.{PassList}
 use Rattle.wire_queue.specs.declared.wires.Sent.{Sent}
 
--- how often wires were asked, with so many times more; the count stands still at its type's end
-abbrev pub asked_more : ℕ → ℕ → ℕ
-asked_more asks more = min (asks + more) (2 ^ 64 - 1)
+-- how often a wire was asked, as far as a count goes, and with one time more
+abbrev pub asked_so_far : ℕ → ℕ
+asked_so_far asks = min asks (2 ^ 64 - 1)
+
+abbrev pub asked_again : ℕ → ℕ
+asked_again asks = min (asks + 1) (2 ^ 64 - 1)
 
 -- at most the end of the wire to this guest is another
 pub record SendsOnly (old new : PassList) (to : ℕ) : Type 0 where
@@ -21,7 +24,7 @@ pub record SendsOnly (old new : PassList) (to : ℕ) : Type 0 where
 -- at most the end of the wire from this guest is another
 pub record TakesOnly (old new : PassList) (from : ℕ) : Type 0 where
   pub guest : new.guest ≡ old.guest
-  pub asks : new.asks ≡ asked_more old.asks 1
+  pub asks : (other : ℕ) → asks_of new other ≡ (if other == from then asked_again (asks_of old from) else asks_of old other)
   pub sends : (other : ℕ) → sending_to new other ≡ sending_to old other
   pub takes : (other : ℕ) → other ≢ from → taking_from new other ≡ taking_from old other
 
@@ -43,10 +46,11 @@ pub record TakesFrom (old : PassList) (from : ℕ) (answer : Option WirePacket) 
   pub taken : TakenBy before answer after
   pub only : TakesOnly old new from
 
--- wires were asked at least so often, and all ends stay
-pub record AsksInVain (old new : PassList) (more : ℕ) : Type 0 where
+-- the wires from these guests were asked, each at least once, and all ends stay
+pub record AsksInVain (old new : PassList) (these : ℕ → Bool) : Type 0 where
   pub guest : new.guest ≡ old.guest
-  pub asks : asked_more old.asks more ≤ new.asks
+  pub asks : (other : ℕ) → these other ≡ true → asked_again (asks_of old other) ≤ asks_of new other
+  pub others : (other : ℕ) → asked_so_far (asks_of old other) ≤ asks_of new other
   pub sends : (other : ℕ) → sending_to new other ≡ sending_to old other
   pub takes : (other : ℕ) → taking_from new other ≡ taking_from old other
 

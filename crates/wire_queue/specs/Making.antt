@@ -1,10 +1,10 @@
 -- Wires while they are being made: a table of queues, and tables of their ends.
-use Rattle.std.specs.Prelude.{◌≡◌, ◌≢◌, ℕ, ◌<◌, List, [], Option, Some, None, IsSome, slice_index}
+use Rattle.std.specs.Prelude.{◌≡◌, ◌≢◌, ℕ, ◌<◌, List, [], Option, Some, None, IsSome, replicate, slice_index}
 use Rattle.wire_queue.specs.QueueIds.{QueueId}
 use Rattle.wire_queue.specs.declared.terms.Terms.{Terms}
 use Rattle.wire_queue.specs.Ends.{Wire, Sending, Taking}
 use Rattle.wire_queue.specs.Between.{entry, wire_between}
-use Rattle.wire_queue.specs.PassTables.{sends_of, takes_of, guests_of, with_entry, IsSquare}
+use Rattle.wire_queue.specs.PassTables.{sends_of, takes_of, guests_of, asks_kept, with_entry, IsSquare}
 use Rattle.wire_queue.specs.PassLists.{sending_wire, taking_wire}
 use Rattle.wire_queue.specs.declared.lists.PassList.{PassList}
 
@@ -14,6 +14,7 @@ pub record AreMade (count : ℕ) (terms : Terms) (queues : List (List (Option Qu
   pub queues_all : IsSquare count queues
   pub sends_all : IsSquare count (sends_of lists)
   pub takes_all : IsSquare count (takes_of lists)
+  pub asks_all : asks_kept lists ≡ replicate count count
   pub numbered : (guest : ℕ) → guest < count → slice_index (guests_of lists) guest ≡ guest
   pub sends : (from to : ℕ) → sending_wire (entry (sends_of lists) from to) ≡ wire_between (record { queues = queues; terms = terms }) from to
   pub takes : (from to : ℕ) → taking_wire (entry (takes_of lists) to from) ≡ wire_between (record { queues = queues; terms = terms }) from to
@@ -29,6 +30,7 @@ pub record IsConnected (terms : Terms) (from to : ℕ) (old new : List (List (Op
   pub sends : sends_of after ≡ with_entry (sends_of before) from to (Some (record { wire = wire; accepted = [] }))
   pub takes : takes_of after ≡ with_entry (takes_of before) to from (Some (record { wire = wire; taken = [] }))
   pub guests : guests_of after ≡ guests_of before
+  pub asks : asks_kept after ≡ asks_kept before
 
 -- all wires from guests below this one are made
 abbrev pub MadeBelow : ℕ → ℕ → List (List (Option QueueId)) → Type 0

@@ -20,10 +20,15 @@ sending_to list other = slice_index_or list.sends.items other None
 abbrev pub taking_from : PassList → ℕ → Option Taking
 taking_from list other = slice_index_or list.takes.items other None
 
--- the list has its guest's end of each of these wires that leads to it or from it, and no other
+-- how often a guest asked the wire from another guest for a packet, as far as its count goes
+abbrev pub asks_of : PassList → ℕ → ℕ
+asks_of list other = slice_index_or list.asks.items other 0
+
+-- the list has its guest's end of each of these wires that leads to it or from it, and no other, and counts its asks of each
 pub record IsListOf (wires : Made) (list : PassList) : Type 0 where
   pub sends_all : length list.sends.items ≡ guest_count wires
   pub takes_all : length list.takes.items ≡ guest_count wires
+  pub asks_all : length list.asks.items ≡ guest_count wires
   pub sends : (other : ℕ) → sending_wire (sending_to list other) ≡ wire_between wires list.guest.0 other
   pub takes : (other : ℕ) → taking_wire (taking_from list other) ≡ wire_between wires other list.guest.0
 

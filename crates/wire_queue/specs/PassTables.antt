@@ -15,6 +15,10 @@ takes_of lists = map (λ list. list.takes.items) lists
 abbrev pub guests_of : List PassList → List ℕ
 guests_of lists = map (λ list. list.guest.0) lists
 
+-- of how many wires each list counts the asks
+abbrev pub asks_kept : List PassList → List ℕ
+asks_kept lists = map (λ list. length list.asks.items) lists
+
 -- the table with another entry in a row at a place
 abbrev pub with_entry : {A : Type 0} → List (List (Option A)) → ℕ → ℕ → Option A → List (List (Option A))
 with_entry rows row place entry = slice_set rows row (slice_set (slice_index_or rows row []) place entry)

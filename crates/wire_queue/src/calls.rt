@@ -41,7 +41,8 @@ impl PassList {
             unreachable!()
         };
         let packet = wires.receive(rt, pass);
-        self.asks = self.asks.saturating_add(1);
+        let asks = &mut self.asks;
+        asks[from.0 as usize] = asks[from.0 as usize].saturating_add(1);
         packet
     }
 

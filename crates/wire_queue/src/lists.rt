@@ -1,19 +1,19 @@
 //! Each guest's passes.
 ghost use Rattle.std.specs.Prelude.{◌≡◌, ◌<◌, [], length, slice_index_or, Some, None};
 ghost use Rattle.wire_queue.specs.Between.{entry};
-ghost use Rattle.wire_queue.specs.PassTables.{sends_of, takes_of, guests_of, with_entry};
+ghost use Rattle.wire_queue.specs.PassTables.{sends_of, takes_of, guests_of, asks_kept, with_entry};
 
 use crate::passes::{SendPass, TakePass};
 use base_words::{GuestId, Sequence};
 
 /// One guest's passes: its end of the wire to each other guest, and of the wire from each other guest. Both stand at the other
-/// guest's number, and none at its own. And how often it asked a wire for a packet, as far as the count goes.
+/// guest's number, and none at its own. And how often it asked the wire from each guest for a packet, as far as a count goes.
 #[derive(Drop)]
 pub struct PassList {
     pub guest: GuestId,
     pub sends: Vec<Option<SendPass>>,
     pub takes: Vec<Option<TakePass>>,
-    pub asks: u64,
+    pub asks: Vec<u64>,
 }
 
 /// The passes of all guests, by their number.
@@ -26,6 +26,7 @@ pub fn put_send(lists: &mut Vec<PassList>, from: GuestId, to: GuestId, pass: Sen
     ensures sends { sends_of lists.new.items ≡ with_entry (sends_of lists.old.items) from.0 to.0 (Some pass) }
     ensures takes { takes_of lists.new.items ≡ takes_of lists.old.items }
     ensures guests { guests_of lists.new.items ≡ guests_of lists.old.items }
+    ensures asks { asks_kept lists.new.items ≡ asks_kept lists.old.items }
 {
     let sends = &mut lists[from.0 as usize].sends;
     sends[to.0 as usize] = Some(pass);
@@ -38,6 +39,7 @@ pub fn put_take(lists: &mut Vec<PassList>, from: GuestId, to: GuestId, pass: Tak
     ensures sends { sends_of lists.new.items ≡ sends_of lists.old.items }
     ensures takes { takes_of lists.new.items ≡ with_entry (takes_of lists.old.items) to.0 from.0 (Some pass) }
     ensures guests { guests_of lists.new.items ≡ guests_of lists.old.items }
+    ensures asks { asks_kept lists.new.items ≡ asks_kept lists.old.items }
 {
     let takes = &mut lists[to.0 as usize].takes;
     takes[from.0 as usize] = Some(pass);

@@ -4,7 +4,7 @@ ghost use Rattle.wire_queue.specs.QueueIds.{queue_id};
 ghost use Rattle.wire_queue.specs.Lines.{terms_of};
 ghost use Rattle.wire_queue.specs.Between.{guest_count};
 ghost use Rattle.wire_queue.specs.WireParts.{ids_of};
-ghost use Rattle.wire_queue.specs.PassTables.{sends_of, takes_of, guests_of, with_entry};
+ghost use Rattle.wire_queue.specs.PassTables.{sends_of, takes_of, guests_of, asks_kept, with_entry};
 ghost use Rattle.wire_queue.specs.PassLists.{AreAllOf, IsUnused, JoinsAll};
 ghost use Rattle.wire_queue.specs.Making.{AreMade, IsConnected, MadeBelow};
 
@@ -27,6 +27,17 @@ fn places<T: Drop>(alloc: Global, count: usize) -> Result<Vec<Option<T>>, AllocE
     Ok(row)
 }
 
+/// So many counts, each 0.
+fn counts(alloc: Global, count: usize) -> Result<Vec<u64>, AllocError>
+    ensures { IfOk result (λ row. row.items ≡ replicate count 0) }
+{
+    let mut row = Vec::with_capacity(alloc, count)?;
+    for _place in 0..count {
+        row.push(0)?;
+    }
+    Ok(row)
+}
+
 /// So many rows of so many places.
 fn rows(alloc: Global, count: usize) -> Result<Vec<Vec<Option<WireQueue>>>, AllocError>
     ensures { IfOk result (λ rows. ids_of rows.items ≡ replicate count (replicate count None)) }
@@ -38,10 +49,11 @@ fn rows(alloc: Global, count: usize) -> Result<Vec<Vec<Option<WireQueue>>>, Allo
     Ok(rows)
 }
 
-/// A list for each guest, with a place for each pass.
+/// A list for each guest, with a place for each pass and a count for each wire to it.
 fn lists(alloc: Global, guests: u8) -> Result<Vec<PassList>, AllocError>
     ensures sends { IfOk result (λ lists. sends_of lists.items ≡ replicate guests (replicate guests None)) }
     ensures takes { IfOk result (λ lists. takes_of lists.items ≡ replicate guests (replicate guests None)) }
+    ensures asks { IfOk result (λ lists. asks_kept lists.items ≡ replicate guests guests) }
     ensures guests { IfOk result (λ lists. (guest : ℕ) → guest < guests → slice_index (guests_of lists.items) guest ≡ guest) }
 {
     let count = guests as usize;
@@ -51,7 +63,7 @@ fn lists(alloc: Global, guests: u8) -> Result<Vec<PassList>, AllocError>
             guest: GuestId(guest),
             sends: places(alloc, count)?,
             takes: places(alloc, count)?,
-            asks: 0,
+            asks: counts(alloc, count)?,
         })?;
     }
     Ok(lists)

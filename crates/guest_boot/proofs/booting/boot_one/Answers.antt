@@ -2,7 +2,6 @@ use Rattle.std.proofs.Common.{rules, ◌≡◌, ℕ, ◌∙◌, sym, ap, length,
 use Rattle.std.specs.Prelude.{slice_get, slice_index_or}
 use Rattle.machine_desc.specs.declared.machine.GuestSpec.{GuestSpec}
 use Rattle.base_words.specs.declared.input.InputEntry.{InputEntry}
-use Rattle.base_words.specs.declared.ids.NodeId.{NodeId}
 use Rattle.machine_desc.specs.Bounds.{IsGuest}
 use Rattle.guest_course.specs.CourseView.{surroundings}
 use Rattle.guest_course.specs.declared.site.Around.{Around}
@@ -19,8 +18,8 @@ use Rattle.guest_boot.specs.Booting.{left_behind}
 use Rattle.guest_boot.proofs.booting.boot_one.Goals as goal
 
 -- what the guest is told of the machine around it
-abbrev around-of : ℕ → ℕ → NodeId → Site → Around
-around-of number disk home site = record { number = record { 0 = number }; disk = disk; home = home; site = site }
+abbrev around-of : ℕ → ℕ → GuestSpec → Site → Around
+around-of number disk spec site = record { number = record { 0 = number }; disk = disk; profile = spec.profile; home = spec.node; site = site }
 
 pub boot-requires-clause-may : goal.boot-requires-clause-may
 boot-requires-clause-may c =
@@ -43,7 +42,7 @@ boot-requires-clause-wired c =
     let is : slice_index_or c.as_slice.result.now c.args.number spec ≡ spec = search rules in
     let same : there.0 ≡ spec = sym (get-index machine.guests c.args.number there.0 spec there.1).1 ∙ ap (λ (l : List GuestSpec). slice_index_or l c.args.number spec) (sym c.as_slice.ensures) ∙ is in
     let at : slice_get machine.guests c.args.number ≡ Some spec = there.1 ∙ ap Some same in
-    wired machine (around-of c.args.number c.unwrap_or-2.result spec.node c.in_ok-site_of.field-0) spec c.args.wires.now c.args.passes c.args.number c.in_ok-site_of.ensures refl refl at c.requires.wires c.requires.passes
+    wired machine (around-of c.args.number c.unwrap_or-2.result spec c.in_ok-site_of.field-0) spec c.args.wires.now c.args.passes c.args.number c.in_ok-site_of.ensures refl refl at c.requires.wires c.requires.passes
 
 -- the lot's holder is the guest's
 pub boot-requires-clause-holds : goal.boot-requires-clause-holds
@@ -65,7 +64,7 @@ boot-requires-clause-holds c =
       under = c.a_lot_holds_its_frames.ensures.under table layout left claim c.args.lot lot;
       loans = c.a_lot_holds_its_frames.ensures.loans table layout left claim c.args.lot lot;
     })
-    c.requires.once refl (is-around machine (around-of c.args.number c.unwrap_or-2.result spec.node c.in_ok-site_of.field-0) spec c.in_ok-site_of.ensures refl)
+    c.requires.once refl (is-around machine (around-of c.args.number c.unwrap_or-2.result spec c.in_ok-site_of.field-0) spec c.in_ok-site_of.ensures refl)
 
 pub returns : goal.returns
 returns c =
@@ -84,8 +83,8 @@ returns c =
     let same-input : typed.0 ≡ input = sym (get-index plan.input c.args.number typed.0 input typed.1).1 ∙ ap (λ (l : List (List InputEntry)). slice_index_or l c.args.number input) (sym c.as_slice-2.ensures) ∙ is-input in
     let at-input : slice_get plan.input c.args.number ≡ Some input = typed.1 ∙ ap Some same-input in
     let lot = c.requires.lot spec at in
-    let around = around-of c.args.number c.unwrap_or-2.result spec.node c.in_ok-site_of.field-0 in
+    let around = around-of c.args.number c.unwrap_or-2.result spec c.in_ok-site_of.field-0 in
     let placed = lot-placed machine plan c.args.table.now c.args.number spec c.args.lot c.requires.fresh lot in
     let fits = fits-around c.args.table.now machine plan around spec c.requires.described c.requires.frames c.requires.lends c.in_ok-site_of.ensures refl in
     let lie = blocks-lie c.args.table.now.terms (layout_of machine.shape) _ machine.cache _ _ _ c.args.indexes.now _ (surroundings around) c.requires.frames (is-around machine around spec c.in_ok-site_of.ensures refl) c.requires.cached.1 in
-    on-ok _ _ c.boot.result (λ guest starts. started machine plan around c.args.source spec c.args.lot.frames input c.args.seat (record { table = c.args.table.now; wires = c.args.wires.now; indexes = c.args.indexes.now }) c.args.passes c.args.lot.holder.table c.args.number guest c.in_ok-site_of.ensures refl refl at at-input placed c.requires.seat.number_is starts lot.made fits lie c.requires.passes.guest_is) c.boot.ensures
+    on-ok _ _ c.boot.result (λ guest starts. started machine plan around c.args.source spec c.args.lot.frames input c.args.seat (record { table = c.args.table.now; wires = c.args.wires.now; indexes = c.args.indexes.now }) c.args.passes c.args.lot.holder.table c.args.number guest c.in_ok-site_of.ensures refl refl refl at at-input placed c.requires.seat.number_is starts lot.made fits lie c.requires.passes.guest_is) c.boot.ensures

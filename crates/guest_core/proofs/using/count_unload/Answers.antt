@@ -42,7 +42,7 @@ returns-then-cell-lt-CELLS c = λ t row.
     let counted : cell.0 < length old.counts = omega (arith, c.cell_of-cell.ensures, c.requires.used.cells, c.if-cell-lt-CELLS.true) in
     let law : FollowsBack old (without_vcpu old cell.0) cell = λ shape rows rest are leaves. c.vcpu_unloaded.ensures.lowered shape rows old cell rest are counted leaves in
     subst (λ (u : UsesState). AreUses t u) (sym is)
-    (uses-unload s t p there.0 old (without_vcpu old cell.0) law (length-set old.counts cell.0 _) (omega (arith, long, c.requires.is_processor)) there.1 (c.exchanges.ensures.unloads s t p row) row c.requires.used)
+    (uses-unload s t p there.0 old (without_vcpu old cell.0) law (length-set old.counts cell.0 _) (omega (arith, long, c.requires.is_processor)) there.1 (c.uses_change.ensures.unloads s t p row) row c.requires.used)
 
 pub returns-else-cell-lt-CELLS : goal.returns-else-cell-lt-CELLS
 returns-else-cell-lt-CELLS c = λ t row.
@@ -54,4 +54,4 @@ returns-else-cell-lt-CELLS c = λ t row.
     let long = length-map c.args.course.now.places.items processor_of in
     let past : length old.counts ≤ cell.0 = omega (arith, c.cell_of-cell.ensures, c.requires.used.cells, c.if-cell-lt-CELLS.false) in
     let law : FollowsBack old old cell = λ shape rows rest are leaves. c.vcpu_unloaded.ensures.elsewhere shape rows old cell rest are past leaves in
-    uses-unload s t p there.0 old old law refl (omega (arith, long, c.requires.is_processor)) there.1 (c.exchanges.ensures.unloads s t p row) row c.requires.used
+    uses-unload s t p there.0 old old law refl (omega (arith, long, c.requires.is_processor)) there.1 (c.uses_change.ensures.unloads s t p row) row c.requires.used

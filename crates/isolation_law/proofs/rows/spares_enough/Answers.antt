@@ -10,5 +10,5 @@ pub returns : goal.returns
 returns c s q co lt needs =
     let one : cond {A = ℕ} (needs_spare (page s q)) 1 0 ≡ 1 = ap (λ (b : Bool). cond {A = ℕ} b 1 0) needs in
     let without = count_by-set needs_spare s.pages q no_page no_page lt in
-    let enough = co.enough in
+    let enough = co.consistent.enough in
     omega (arith, one, without, enough)

@@ -20,7 +20,7 @@ invariant_of-result c =
         transfers = ap (λ (d : DeviceState). length d.page.transfers) devs ∙ length-replicate n nothing_set ∙ sym (ap length vcpus ∙ count);
         agree = ap (map shown_by) vcpus ∙ shown_by-started n entry ∙ sym (ap (λ (d : DeviceState). shown_from d.packet d.halted d.called) devs);
         armed = λ page is. absurd (let none : None ≡ Some page = sym (ap (λ (d : DeviceState). d.page.armed) devs) ∙ is in cc);
-        empty = c.new-2.ensures.items;
+        empty = c.new-3.ensures.items;
         room = λ ready. absurd cc;
       };
       some = omega (arith, ap length vcpus, count, c.requires);

@@ -10,7 +10,7 @@ use Rattle.guest_course.specs.CourseView.{state_of}
 use Rattle.guest_core.specs.Wiring.{Posted}
 use Rattle.guest_core.proofs.ActLemmas.{acts-opened}
 use Rattle.guest_core.proofs.AskLemmas.{kept-packet, quiet-begin}
-use Rattle.guest_core.proofs.GainLemmas.{inside-need, exchanged-inside}
+use Rattle.guest_core.proofs.GainLemmas.{inside-need, changed-inside, exchanged-inside}
 use Rattle.guest_core.proofs.OpenCounts.{open-more}
 use Rattle.guest_core.proofs.EnterProofs.{of-these}
 use Rattle.guest_core.proofs.HoldingLemmas.{frames-stay}
@@ -36,6 +36,7 @@ returns-clause-kept c =
     let kept = kept-packet w c.laws.ensures.runs old.start s t old.journal.entries old.seat.notes q kind home k.kept row in
     let around = w.around s t entry row in
     let exchanged = exchanged-inside s t q.0 kind s.around.home Packet row (inside-need s q.0 kind c.requires.needs.needs) (c.exchanges.ensures.begins s t q.0 kind s.around.home Packet row) in
+    let change = changed-inside s t q.0 kind s.around.home Packet row (inside-need s q.0 kind c.requires.needs.needs) (c.uses_change.ensures.begins s t q.0 kind s.around.home Packet row) in
     let loads = as-many w s t entry row (λ r. refl) in
     let opens = open-more s t q.0 kind s.around.home Packet row in
     let room = two-entries _ _ _ c.requires.room in
@@ -48,7 +49,7 @@ returns-clause-kept c =
       kept = of-these old.start t _ _ _ _ journal refl kept;
       goes_on = λ on. e.goes_on;
       frames = frames-stay s t _ exchanged around (ap (λ (x : GuestState). x.end) row.after) k.frames;
-      used = uses-row w s t entry old.uses row exchanged (λ r. refl) k.used;
+      used = uses-row w s t entry old.uses row change (λ r. refl) k.used;
       at_home = k.at_home;
       owed = omega (arith, loads, opens, room, c.push.ensures.room);
       few_guests = k.few_guests;

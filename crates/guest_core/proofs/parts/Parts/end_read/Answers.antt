@@ -6,7 +6,7 @@ use Rattle.base_words.specs.declared.ids.ProcId.{ProcId}
 use Rattle.shootdown.specs.declared.notes.Note.TheVariants.{Made}
 use Rattle.shootdown.specs.Notes.{Seat, Token, sided}
 use Rattle.private_machine.specs.DeviceAct.{ReadsDisk}
-use Rattle.private_machine.specs.PageMove.{dropped_taken}
+use Rattle.private_machine.specs.PageMove.{dropped_taken, untied_taken}
 use Rattle.isolation_law.specs.Exchange.{Exchanged}
 use Rattle.isolation_law.specs.GuestState.{GuestState, page}
 use Rattle.isolation_law.specs.StepRows.{EndsRead}
@@ -24,6 +24,7 @@ use Rattle.guest_core.proofs.KeptProofs.{read-due}
 use Rattle.guest_core.proofs.LettingLemmas.{quiet-step}
 use Rattle.guest_core.proofs.MoveLemmas.{counts-dropped, holds-dropped}
 use Rattle.guest_core.proofs.RoomLemmas.{UsesCall, no-more, room-used, two-entries}
+use Rattle.guest_core.proofs.UntiedLemmas.{taken-page, taken-within, to-count}
 use Rattle.guest_core.proofs.WiringProofs.{posted-same, posts-none, same-ends, takes-none}
 use Rattle.guest_core.proofs.parts.Parts.end_read.Goals as goal
 
@@ -56,13 +57,31 @@ give_back-requires-clause-freed c =
     let same : row.q ≡ c.args.page.0 = same-page row.b c.requires.own.block_read row.q c.args.page.0 (sym row.reads ∙ c.requires.own.reads) in
     let gone = dropped_taken (page s c.args.page.0) in
     let ex : Exchanged s t [] gone = subst (λ (q : ℕ). Exchanged s t [] (dropped_taken (page s q))) same (c.exchanges.ensures.ends_read s t p.0 v.0 row) in
-    let used : UseChanged s t [] gone = subst (λ (q : ℕ). UseChanged s t [] (dropped_taken (page s q))) same (c.uses_change.ensures.ends_read s t p.0 v.0 row) in
     record {
       copies = gone;
       numbers = c.end_read-freed.ensures.freed;
       held_too = holds-dropped s t gone old.holder.view ex (c.laws.ensures.rows.around (state_of c.args.self.now.course) (state_of c.end_read-freed.new.self) (Emulate (processor_of c.args.token.now) c.args.vcpu) (inr (c.end_read-freed.ensures.ends c.args.token.now.number c.requires.left.traps))) k.frames.holding;
-      counted_too = counts-dropped s t gone old.uses used (c.laws.ensures.rows.around (state_of c.args.self.now.course) (state_of c.end_read-freed.new.self) (Emulate (processor_of c.args.token.now) c.args.vcpu) (inr (c.end_read-freed.ensures.ends c.args.token.now.number c.requires.left.traps))) (w.processors s t (Emulate p v) (inr row)) (λ r. w.loaded s t (Emulate p v) r (inr row)) k.used;
     }
+
+pub untied_by_taking-untied-requires : goal.untied_by_taking-untied-requires
+untied_by_taking-untied-requires c = taken-page (state_of c.args.self.now.course) c.args.page.0 c.requires.own.taken
+
+pub count_untied-requires : goal.count_untied-requires
+count_untied-requires c =
+    let old = c.args.self.now in
+    let s = state_of old.course in
+    let t = state_of c.end_read-freed.new.self in
+    let k = c.requires.kept in
+    let p = processor_of c.args.token.now in
+    let v = c.args.vcpu in
+    let w = c.laws.ensures.rows in
+    let row : EndsRead s p.0 v.0 t = c.end_read-freed.ensures.ends p.0 c.requires.left.traps in
+    let same : row.q ≡ c.args.page.0 = same-page row.b c.requires.own.block_read row.q c.args.page.0 (sym row.reads ∙ c.requires.own.reads) in
+    let around = w.around s t (Emulate p v) (inr row) in
+    let gone = untied_taken (page s c.args.page.0) in
+    let used : UseChanged s t [] gone = subst (λ (q : ℕ). UseChanged s t [] (untied_taken (page s q))) same (c.uses_change.ensures.ends_read s t p.0 v.0 row) in
+    to-count s t c.untied_by_taking-untied.result gone old.uses around c.untied_by_taking-untied.ensures (taken-within s c.args.page.0 old.holder.view (taken-page s c.args.page.0 c.requires.own.taken) k.frames.holding)
+    (counts-dropped s t gone old.uses used around (w.processors s t (Emulate p v) (inr row)) (λ r. w.loaded s t (Emulate p v) r (inr row)) k.used)
 
 pub returns-clause-kept : goal.returns-clause-kept
 returns-clause-kept c =
@@ -88,7 +107,7 @@ returns-clause-kept c =
       kept = of-these old.start t _ _ _ _ journal (ap (λ (x : Seat). x.notes) c.note.ensures.seat ∙ ap (λ (p : ProcId). old.seat.notes ++ sided q.0 (Made (Emulate p v)) ∷ []) same) kept;
       goes_on = λ is. e.goes_on;
       frames = record { holding = c.give_back.ensures.holding; given_back = λ end is. absurd (none-some end (sym e.goes_on.not_ended ∙ is)) };
-      used = c.give_back.ensures.used;
+      used = c.count_untied.ensures;
       at_home = k.at_home;
       owed = omega (arith, read-due w c.laws.ensures.moves s t q v row, room, c.push.ensures.room);
       few_guests = k.few_guests;

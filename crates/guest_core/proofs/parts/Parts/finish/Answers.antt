@@ -3,7 +3,7 @@ use Rattle.std.proofs.Common.{◌≡◌, inl, ◌<◌, Some, None, length, refl,
 use Rattle.base_words.specs.declared.events.End.{End}
 use Rattle.base_words.specs.declared.events.Event.{Event}
 use Rattle.base_words.specs.declared.events.Event.TheVariants.{Finish}
-use Rattle.private_machine.specs.PageMove.{dropped}
+use Rattle.private_machine.specs.PageMove.{dropped, untied}
 use Rattle.isolation_law.specs.GuestState.{GuestState, page}
 use Rattle.isolation_law.specs.Surroundings.{Surroundings}
 use Rattle.guest_course.specs.CourseView.{state_of}
@@ -13,6 +13,7 @@ use Rattle.guest_core.proofs.EnterProofs.{one-row}
 use Rattle.guest_core.proofs.KeptProofs.{kept-none, finish-due}
 use Rattle.guest_core.proofs.MoveLemmas.{holds-dropped, counts-dropped, kept-made, posted-finish}
 use Rattle.guest_core.proofs.RoomLemmas.{KeepsCalls, room-kept}
+use Rattle.guest_core.proofs.UntiedLemmas.{to-count, untied-within}
 use Rattle.guest_core.proofs.parts.Parts.finish.Goals as goal
 
 pub give_back-requires-clause-fits : goal.give_back-requires-clause-fits
@@ -39,8 +40,20 @@ give_back-requires-clause-freed c =
       copies = dropped (page s q.0) row.move.change;
       numbers = c.finish_move-freed.ensures.freed row.move row.open_move;
       held_too = holds-dropped s t _ old.holder.view (c.exchanges.ensures.finishes s t q.0 row) around k.frames.holding;
-      counted_too = counts-dropped s t _ old.uses (c.uses_change.ensures.finishes s t q.0 row) around (w.processors s t (Finish q) (inl row)) (λ r. w.loaded s t (Finish q) r (inl row)) k.used;
     }
+
+pub count_untied-requires : goal.count_untied-requires
+count_untied-requires c =
+    let old = c.args.self.now in
+    let s = state_of old.course in
+    let t = state_of c.finish_move-freed.new.self in
+    let k = c.requires.kept in
+    let q = c.args.page in
+    let w = c.laws.ensures.rows in
+    let row = c.finish_move-freed.ensures.finishes in
+    let around = w.around s t (Finish q) (inl row) in
+    to-count s t c.untied-untied.result (untied (page s q.0) row.move.change) old.uses around (c.untied-untied.ensures row.move row.open_move) (untied-within s q.0 row.move old.holder.view c.requires.page row.open_move k.frames.holding)
+    (counts-dropped s t _ old.uses (c.uses_change.ensures.finishes s t q.0 row) around (w.processors s t (Finish q) (inl row)) (λ r. w.loaded s t (Finish q) r (inl row)) k.used)
 
 pub push-requires : goal.push-requires
 push-requires c =
@@ -57,12 +70,12 @@ returns-clause-kept c =
     let w = c.laws.ensures.rows in
     let row = c.finish_move-freed.ensures.finishes in
     let e : Event = Finish q in
-    kept-made old e c.finish_move-freed.new.self c.give_back.new.holder c.give_back.new.uses c.push.new.self k (record {
+    kept-made old e c.finish_move-freed.new.self c.give_back.new.holder c.count_untied.new.uses c.push.new.self k (record {
       sound = c.finish_move-freed.ensures.sound;
       kept = kept-none w c.laws.ensures.runs old.start s t old.journal.entries old.seat.notes e k.kept (inl row) refl;
       goes_on = λ on. c.finish_move-freed.ensures.goes_on;
       frames = record { holding = c.give_back.ensures.holding; given_back = λ end is. absurd (not-ended end (sym c.finish_move-freed.ensures.goes_on.not_ended ∙ is)) };
-      used = c.give_back.ensures.used;
+      used = c.count_untied.ensures;
       owed = omega (arith, finish-due w c.laws.ensures.moves s t q row, k.owed, c.push.ensures.room);
       posted = posted-finish w c.laws.ensures.takes s t old.journal.entries old.wiring.passes q k.posted row;
       entries = c.push.ensures.entries;

@@ -1,6 +1,7 @@
 -- Each move for which nobody waits is finished, page by page.
 use Rattle.std.proofs.Common.{ℕ, ◌<◌, ◌≤◌, length, ◌∙◌, subst, arith}
-use Rattle.guest_core.specs.GuestView.{guest_of}
+use Rattle.guest_core.specs.GuestView.{guest_of, shared_by}
+use Rattle.guest_core.proofs.ActingLemmas.{are-again}
 use Rattle.guest_core.proofs.EndLemmas.{finished-next, still-made, none-left}
 use Rattle.guest_core.proofs.parts.Parts.finish_all.Goals as goal
 
@@ -9,6 +10,10 @@ at-most a b d first next = omega (arith, first, next)
 
 pub returns-then-not-is_moving-clause-makes : goal.returns-then-not-is_moving-clause-makes
 returns-then-not-is_moving-clause-makes c = still-made (guest_of c.args.self.now) (c.is_moving.ensures.none c.if-not-is_moving.true)
+
+pub finish_ready-requires-clause-shared : goal.finish_ready-requires-clause-shared
+finish_ready-requires-clause-shared c =
+    are-again (shared_by c.args.resources.now) (guest_of c.args.self.now) (guest_of c.loop-number.self) c.requires.shared c.loop-number.invariant.3
 
 pub loop-number-preserved : goal.loop-number-preserved
 loop-number-preserved c =

@@ -3,7 +3,7 @@ use Rattle.std.proofs.Common.{◌≡◌, ℕ, Some, ⊎_elim, inl, inr}
 use Rattle.isolation_law.specs.GuestState.{GuestState}
 use Rattle.isolation_law.specs.StepAct.{at_hand}
 use Rattle.guest_course.specs.Acting.{page_used, IsOwnRead}
-use Rattle.guest_course.specs.RefillCalls.{ReachesPage}
+use Rattle.guest_course.specs.RefillCalls.{TrapsOn}
 use Rattle.guest_core.specs.MoveCalls.{MeetsPage, StepIsOn}
 use Rattle.guest_course.specs.CourseView.{state_of}
 use Rattle.guest_core.proofs.DoneLemmas.{taken-done}
@@ -11,7 +11,7 @@ use Rattle.guest_core.proofs.parts.Parts.meet.Goals as goal
 
 -- the step is on the page
 on : (s : GuestState) (p v q : ℕ) → MeetsPage s p v q → StepIsOn s p v q
-on s p v q meets = ⊎_elim (λ (r : ReachesPage s p v q). inl r) (λ (u : (page_used (at_hand s v) ≡ Some q) × (IsOwnRead s v q → ⊥)). inr u.0) meets
+on s p v q meets = ⊎_elim (λ (r : TrapsOn s p v q). inl r) (λ (u : (page_used (at_hand s v) ≡ Some q) × (IsOwnRead s v q → ⊥)). inr u.0) meets
 
 pub returns-in-Waits-clause-turns : goal.returns-in-Waits-clause-turns
 returns-in-Waits-clause-turns c =

@@ -34,7 +34,7 @@ returns-clause-kept c =
       room = c.push.ensures.room;
       notes_of = told.heard;
     } in
-    kept-beyond c.laws.ensures.rows c.laws.ensures.runs c.laws.ensures.moves c.laws.ensures.takes old cell side (Dead cell) c.fail.new.self c.push.new.self c.note-2.new.seat k c.requires.room (c.exchanges.ensures.fails s t cell.0 row) beyond
+    kept-beyond c.laws.ensures.rows c.laws.ensures.runs c.laws.ensures.moves c.laws.ensures.takes old cell side (Dead cell) c.fail.new.self c.push.new.self c.note-2.new.seat k c.requires.room (c.exchanges.ensures.fails s t cell.0 row) (c.uses_change.ensures.fails s t cell.0 row) beyond
 
 pub returns-clause-fails : goal.returns-clause-fails
 returns-clause-fails c =

@@ -106,7 +106,7 @@ returns-in-Take-clause-shares c =
       rest = c.requires.rest;
       step = inr (ap page_used page.takes.reads);
       kind = TakeShared;
-      shares = record { copy = shared_copy_of c.in-Take.frame; takes = page.takes; into = does-begun s t c.in-Take.page.0 (TakesShared (shared_copy_of c.in-Take.frame)) _ _ page.may.is_page c.begin_for_block.ensures.opened };
+      shares = inr (record { copy = shared_copy_of c.in-Take.frame; takes = page.takes; into = does-begun s t c.in-Take.page.0 (TakesShared (shared_copy_of c.in-Take.frame)) _ _ page.may.is_page c.begin_for_block.ensures.opened });
       makes = search rules;
     }
 
@@ -121,7 +121,7 @@ returns-in-Give-clause-shares c =
       rest = c.requires.rest;
       step = inr page.reached;
       kind = GiveShared;
-      shares = record { spare = copy_of c.in-Give.spare; found = page.spare; into = does-begun s t c.in-Give.page.0 (GivesShared (copy_of c.in-Give.spare)) _ _ page.is_page c.begin_to_give.ensures.opened };
+      shares = inr (record { spare = copy_of c.in-Give.spare; found = page.spare; into = does-begun s t c.in-Give.page.0 (GivesShared (copy_of c.in-Give.spare)) _ _ page.is_page c.begin_to_give.ensures.opened });
       makes = record {
         makes = record { journal = c.push-in-Give.ensures.entries ∙ ap (λ (x : Event). c.args.self.now.journal.entries ++ x ∷ []) entry; run = one-row s t (Begin c.in-Give.page GiveShared (record { 0 = s.around.home }) (Step c.args.processor)) row };
         passes = refl;

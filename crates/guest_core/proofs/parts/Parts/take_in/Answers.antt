@@ -4,7 +4,8 @@ use Rattle.base_words.specs.declared.ids.Ppn.{Ppn}
 use Rattle.guest_course.specs.CourseView.{state_of}
 use Rattle.guest_core.specs.GuestView.{guest_of, Monitored}
 use Rattle.guest_core.specs.PacketCalls.{RefusesHanded, SharesPacket, TakesHanded}
-use Rattle.guest_core.proofs.HandedLemmas.{after-seen, begun-copied, delivers-copied, begun-shared}
+use Rattle.guest_core.proofs.HandedLemmas.{after-seen, begun-copied, delivers-copied, begun-shared, keeps-seen}
+use Rattle.guest_core.proofs.PacketLemmas.{takes-err}
 use Rattle.guest_core.proofs.MoveLemmas.{needs-kind}
 use Rattle.guest_core.proofs.parts.Parts.take_in.Goals as goal
 
@@ -21,6 +22,15 @@ returns-in_ok-receive-in-Free-clause-takes c =
       delivers-copied old mid (guest_of c.receive.new.self) c.in-Some.armed.0 c.requires.in_hand armed (c.in-Free.ensures.keeps.1 c.in-Some.armed.0 armed) refuses c.in_ok-receive-in-Free.ensures.view c.in_ok-receive-in-Free.ensures.leaves
           c.in_ok-receive-in-Free.ensures.received,
     )
+
+pub returns-in_err-receive-in-Free-clause-takes : goal.returns-in_err-receive-in-Free-clause-takes
+returns-in_err-receive-in-Free-clause-takes c =
+    let old = guest_of c.args.self.now in
+    let mid = guest_of c.share_packet-in-Free.new.self in
+    let new = guest_of c.receive.new.self in
+    let refuses = refused old c.in-Some.armed mid c.in_ok-share_packet-in-Free.field-0 c.if-branch-2.false c.in_ok-share_packet-in-Free.ensures.shares in
+    takes-err old new c.from_residual-in_err-receive-in-Free.result c.from_residual-in_err-receive-in-Free.ensures.0
+    (keeps-seen old mid new c.requires.armed c.requires.in_hand refuses (ap guest_of c.in_err-receive-in-Free.ensures.unchanged))
 
 pub returns-in_ok-receive-in-Free-clause-leaves : goal.returns-in_ok-receive-in-Free-clause-leaves
 returns-in_ok-receive-in-Free-clause-leaves c =

@@ -7,7 +7,8 @@ use Rattle.isolation_law.specs.Run.{Silent}
 use Rattle.wire_queue.specs.declared.packet.WirePacket.{WirePacket}
 use Rattle.guest_course.specs.CourseView.{hand_of, state_of}
 use Rattle.guest_core.proofs.EnterProofs.{none-handed}
-use Rattle.guest_core.specs.GuestView.{guest_of}
+use Rattle.guest_core.specs.GuestView.{guest_of, shared_by}
+use Rattle.guest_core.proofs.ActingLemmas.{are-again}
 use Rattle.guest_core.proofs.PacketLemmas.{then-takes, armed-then, takes-err, then-same}
 use Rattle.guest_core.specs.declared.answers.Packeted.TheVariants as packeted
 use Rattle.guest_core.proofs.HandedLemmas.{keeps-all}
@@ -62,6 +63,15 @@ returns-then-is_none-clause-takes g c =
       handed = none-handed new.course empty ∙ sym (none-handed old.course none);
       notes = f.quiet.notes;
     }
+
+pub take_in-requires-clause-shared : goal.take_in-requires-clause-shared
+take_in-requires-clause-shared g c = are-again (shared_by c.args.resources.now) (guest_of c.args.self.now) (guest_of c.fetch.new.self) c.requires.shared c.fetch.ensures.same
+
+pub take_in-requires-clause-armed : goal.take_in-requires-clause-armed
+take_in-requires-clause-armed g c = armed-then (guest_of c.args.self.now) (guest_of c.fetch.new.self) c.fetch.ensures.fetches c.requires.armed
+
+pub discard-requires-clause-armed : goal.discard-requires-clause-armed
+discard-requires-clause-armed g c = armed-then (guest_of c.args.self.now) (guest_of c.fetch.new.self) c.fetch.ensures.fetches c.requires.armed
 
 pub take_in-requires-clause-in_hand : goal.take_in-requires-clause-in_hand
 take_in-requires-clause-in_hand g c = is-in-hand c.fetch.new.self.course.hand c.if-is_none.ensures

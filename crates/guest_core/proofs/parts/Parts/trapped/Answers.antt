@@ -16,7 +16,8 @@ use Rattle.isolation_law.specs.RefillRow.{Refills}
 use Rattle.isolation_law.specs.StepRows.{Emulates}
 use Rattle.isolation_law.specs.Surroundings.{Surroundings}
 use Rattle.guest_course.specs.CourseView.{state_of}
-use Rattle.guest_course.specs.RefillCalls.{StaysNeeding}
+use Rattle.base_words.specs.declared.moves.MoveKind.TheVariants.{Collapse}
+use Rattle.guest_course.specs.RefillCalls.{StaysNeeding, StaysLosing}
 use Rattle.guest_course.specs.declared.course.Course.{Course}
 use Rattle.isolation_law.specs.StepAct.{at_hand}
 use Rattle.guest_core.specs.MoveCalls.{MeetsPage}
@@ -26,7 +27,7 @@ use Rattle.guest_core.specs.Holding.{FitsAround}
 use Rattle.guest_core.specs.Making.{Makes}
 use Rattle.guest_core.specs.TurnParts.{BeginsFor, Concludes, Quietly}
 use Rattle.guest_core.specs.Wiring.{Posted}
-use Rattle.guest_core.proofs.ActingLemmas.{begun-store}
+use Rattle.guest_core.proofs.ActingLemmas.{begun-lost, begun-store}
 use Rattle.guest_core.proofs.EnterProofs.{concluded, handed-same, kept-refill, kept-step, learns-none, of-these, one-row, quiet-leaves, step-run, uses-none}
 use Rattle.guest_core.proofs.HoldingLemmas.{frames-stay}
 use Rattle.guest_core.proofs.KeptProofs.{emulate-due, emulate-end, refill-due}
@@ -62,7 +63,7 @@ returns-in-Refill-clause-kept g c =
       kept = of-these old.start m _ _ _ _ journal refl kept;
       goes_on = λ on. e.goes_on;
       frames = frames-stay s m _ (c.exchanges.ensures.refills s m q.0 did) around (ap (λ (x : GuestState). x.end) did.after) k.frames;
-      used = uses-row w s m (Refill q) old.uses did (c.exchanges.ensures.refills s m q.0 did) (λ r. refl) k.used;
+      used = uses-row w s m (Refill q) old.uses did (c.uses_change.ensures.refills s m q.0 did) (λ r. refl) k.used;
       at_home = k.at_home;
       owed = omega (arith, refill-due w c.laws.ensures.moves s m q did, room, c.push.ensures.room);
       few_guests = k.few_guests;
@@ -147,7 +148,7 @@ conclude-requires-clause-used g c =
     let q : ProcId = processor_of c.args.token.now in
     let v = c.args.vcpu in
     let did : Emulates s q.0 v.0 m = subst (λ (n : ℕ). Emulates s n v.0 m) c.number-processor.ensures c.in-Emulate.ensures.enters in
-    uses-row c.laws.ensures.rows s m (Emulate q v) c.args.self.now.uses (inl did) (c.exchanges.ensures.emulates s m q.0 v.0 did) (λ r. refl) c.requires.kept.used
+    uses-row c.laws.ensures.rows s m (Emulate q v) c.args.self.now.uses (inl did) (c.uses_change.ensures.emulates s m q.0 v.0 did) (λ r. refl) c.requires.kept.used
 
 pub conclude-requires-clause-room : goal.conclude-requires-clause-room
 conclude-requires-clause-room g c =
@@ -305,8 +306,25 @@ returns-in-Needs-clause-turns g c =
     let needs : StaysNeeding s q.0 v.0 r.0 kind m = subst (λ (n : ℕ). StaysNeeding s n v.0 r.0 kind m) c.number-processor.ensures c.in-Needs.ensures.enters in
     let begins : BeginsFor mid q r kind new = subst (λ (p : ProcId). BeginsFor mid p r kind new) same c.begin_store.ensures.begins in
     let stores = subst (λ (x : Course). at_hand (state_of x) v.0 ≡ StoresTo r.0) c.in-Needs.ensures.same c.begin_store.ensures.stores in
-    begun-store shared (guest_of old) new q v r kind c.requires.rest (needs-kind s r.0 kind needs.needs.needs) (inl needs.reaches) stores
+    begun-store shared (guest_of old) new q v r kind c.requires.rest (needs-kind s r.0 kind needs.needs.needs) (inl (inl needs.reaches)) stores
     (subst (λ (x : Course). BeginsFor (guest_of (record old { course = x })) q r kind new) c.in-Needs.ensures.same begins)
+
+pub returns-in-Lost-clause-turns : goal.returns-in-Lost-clause-turns
+returns-in-Lost-clause-turns g c =
+    let old = c.args.self.now in
+    let shared = shared_by c.args.resources.now in
+    let new = guest_of c.begin_lost.new.self in
+    let mid = guest_of (record old { course = c.serve.new.self }) in
+    let s = state_of old.course in
+    let m = state_of c.serve.new.self in
+    let q : ProcId = processor_of c.args.token.now in
+    let v = c.args.vcpu in
+    let r = c.in-Lost.page in
+    let same : c.number-processor.result ≡ q = ap (λ (n : ℕ). record { 0 = n }) c.number-processor.ensures in
+    let loses : StaysLosing s q.0 v.0 r.0 m = subst (λ (n : ℕ). StaysLosing s n v.0 r.0 m) c.number-processor.ensures c.in-Lost.ensures.enters in
+    let begins : BeginsFor mid q r Collapse new = subst (λ (p : ProcId). BeginsFor mid p r Collapse new) same c.begin_lost.ensures.begins in
+    begun-lost shared (guest_of old) new q v r c.requires.rest loses.loses
+    (subst (λ (x : Course). BeginsFor (guest_of (record old { course = x })) q r Collapse new) c.in-Lost.ensures.same begins)
 
 pub returns-in-Waits-clause-leaves : goal.returns-in-Waits-clause-leaves
 returns-in-Waits-clause-leaves g c =

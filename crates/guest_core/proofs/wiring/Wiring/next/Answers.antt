@@ -8,5 +8,5 @@ returns-clause-taken g c =
     let old = c.args.self.now.passes in
     let long : c.len-guests.result ≡ length old.takes.items = search rules in
     let least = c.min-start.ensures in
-    taken-next old c.ask.new.self.passes c.ask-2.new.self.passes c.min-start.result c.len-guests.result c.ask-2.result long (omega (arith, least)) (omega (arith, long, c.requires.list.takes_all, c.requires.is_guest))
+    taken-next old c.ask.new.self.passes c.ask-2.new.self.passes c.min-start.result c.len-guests.result c.ask-2.result long (omega (arith, least))
     c.in_default.ensures.none c.ask-2.ensures.none c.ask-2.ensures.some

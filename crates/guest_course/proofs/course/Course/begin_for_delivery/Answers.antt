@@ -15,7 +15,7 @@ begin_taking-requires-clause-may c =
     let hands = c.requires.hands in
     record {
       goes_on = c.requires.goes_on;
-      is_page = (c.requires.sound.going c.requires.goes_on.not_ended).coherent.armed_page c.args.page.0 c.requires.armed;
+      is_page = (c.requires.sound.going c.requires.goes_on.not_ended).coherent.consistent.armed_page c.args.page.0 c.requires.armed;
       rests = c.requires.rests;
       bytes = hands.bytes ∙ ap (bytes_for s) (sym hands.is_for);
       lives = c.requires.target;

@@ -27,7 +27,7 @@ got-requires c = (subst (FitsInHand (surroundings c.args.self.now.around)) c.in-
 pub note_packet-requires-clause-few : goal.note_packet-requires-clause-few
 note_packet-requires-clause-few c =
     let going = c.requires.sound.going c.requires.goes_on.not_ended in
-    subst (λ (x : Packet). length x.bytes ≤ 4096) (sym c.in_ok-packet.ensures) (going.coherent.packet (hand_of c.in-Some-hand.packet) (ap (option_map hand_of) c.in-Some-hand.is))
+    subst (λ (x : Packet). length x.bytes ≤ 4096) (sym c.in_ok-packet.ensures) (going.coherent.consistent.packet (hand_of c.in-Some-hand.packet) (ap (option_map hand_of) c.in-Some-hand.is))
 
 pub take-freed-requires-clause-taken : goal.take-freed-requires-clause-taken
 take-freed-requires-clause-taken c =

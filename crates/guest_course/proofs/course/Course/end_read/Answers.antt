@@ -26,8 +26,8 @@ use Rattle.guest_course.specs.LeavingCalls.{passed}
 use Rattle.guest_course.specs.Tasks.{done_page, done_vcpus}
 use Rattle.guest_course.proofs.VecLemmas.{items-with}
 use Rattle.guest_course.proofs.TaskLemmas.{done-shown}
-use Rattle.guest_course.proofs.LeaveProofs.{Left, left-remade, left-stays}
-use Rattle.guest_course.proofs.EmulateProofs.{remade-rebacked, sound-remade}
+use Rattle.guest_course.proofs.LeaveProofs.{Left, left-remade, left-stays, shown-stays}
+use Rattle.guest_course.proofs.EmulateProofs.{remade-rebacked, sound-remade, remade-shown, shown-long}
 use Rattle.guest_course.proofs.HaltLemmas.{left-halted}
 use Rattle.guest_course.proofs.StepProofs.{goes-on}
 use Rattle.guest_course.proofs.TakingProofs.{ends-read-row, still-taken}
@@ -74,14 +74,15 @@ left c =
     }
 
 -- the page's move still takes it shared
-taken-still : (c : goal.After-take) → IsTaken (state_of (mid c)) c.args.page.0
+taken-still : (c : goal.After-take) → IsTaken (state_of c.show_again.new.self) c.args.page.0
 unfolding mid
-taken-still c = still-taken c.args.self.now (mid c) c.args.page.0 (ap (λ (m : PageMap). m.pages) c.perform.ensures.pages) c.requires.own.taken
+taken-still c =
+    still-taken c.args.self.now c.show_again.new.self c.args.page.0 (ap (λ (x : Course). x.pmap.pages) c.show_again.ensures.same ∙ ap (λ (m : PageMap). m.pages) c.perform.ensures.pages) c.requires.own.taken
 
 row : (c : goal.After-take) (p : ℕ) → IsEmulated (state_of c.args.self.now) p c.args.vcpu.0 → EndsRead (state_of c.args.self.now) p c.args.vcpu.0 (state_of c.take.new.self)
 unfolding left mid task taken-still
 row c p traps =
-    ends-read-row c.args.self.now (mid c) c.take.new.self p c.args.vcpu.0 c.args.page.0 c.args.act c.step_leads.ensures.ticks c.requires.own traps c.requires.left.1.defers (left c)
+    ends-read-row c.args.self.now (mid c) c.show_again.new.self c.take.new.self p c.args.vcpu.0 c.args.page.0 c.args.act c.step_leads.ensures.ticks c.requires.own traps c.requires.left.1.defers (left c) c.show_again.ensures.shown
     (c.take.ensures.taken (taken-still c))
 
 pub returns-clause-ends : goal.returns-clause-ends
@@ -89,7 +90,9 @@ unfolding row
 returns-clause-ends c = row c
 
 pub returns-clause-freed : goal.returns-clause-freed
-returns-clause-freed c = c.take.ensures.freed ∙ ap (λ (m : PageMap). numbers_of (dropped_taken (page_at m.pages c.args.page.0))) c.perform.ensures.pages
+returns-clause-freed c =
+    c.take.ensures.freed ∙ ap (λ (x : Course). numbers_of (dropped_taken (page_at x.pmap.pages c.args.page.0))) c.show_again.ensures.same
+    ∙ ap (λ (m : PageMap). numbers_of (dropped_taken (page_at m.pages c.args.page.0))) c.perform.ensures.pages
 
 pub returns-clause-goes_on : goal.returns-clause-goes_on
 unfolding left mid task
@@ -97,8 +100,8 @@ returns-clause-goes_on c =
     let old = c.args.self.now in
     let v = c.args.vcpu.0 in
     goes-on old c.take.new.self
-    (ap (λ l. all_halted l.items) c.take.ensures.rebacked.vcpus ∙ ap all_halted (left c).vcpus ∙ left-halted v (task c) old.vcpus.items old.devs.state.page)
-    (c.take.ensures.rebacked.ended ∙ ap (λ (x : Course). x.ended) (left c).same) c.requires.left.1.traps.goes_on
+    (ap (λ l. all_halted l.items) c.take.ensures.rebacked.vcpus ∙ ap (λ (x : Course). all_halted x.vcpus.items) c.show_again.ensures.same ∙ ap all_halted (left c).vcpus ∙ left-halted v (task c) old.vcpus.items old.devs.state.page)
+    (c.take.ensures.rebacked.ended ∙ ap (λ (x : Course). x.ended) c.show_again.ensures.same ∙ ap (λ (x : Course). x.ended) (left c).same) c.requires.left.1.traps.goes_on
 
 pub returns-clause-sound : goal.returns-clause-sound
 unfolding row left mid task taken-still
@@ -110,10 +113,13 @@ returns-clause-sound c =
     let on = act.traps.goes_on.not_ended in
     let sound = c.requires.sound in
     let going = sound.going on in
-    let stays = left-stays old (mid c) c.args.vcpu.0 (task c) (left c) in
+    let shown = c.show_again.new.self in
+    let stays = shown-stays (state_of old) (mid c) shown c.show_again.ensures.same (left-stays old (mid c) c.args.vcpu.0 (task c) (left c)) in
     let loaded : (r : ℕ) → (processor (state_of new) r).loaded ≡ (processor (state_of old) r).loaded = λ r. ap (λ (s : GuestState). (processor s r).loaded) (c.take.ensures.taken (taken-still c)) ∙ stays.loaded r in
     let processor : ProcId = record { 0 = p } in
-    sound-remade old new sound on (remade-rebacked old (mid c) new (left-remade old (mid c) c.args.vcpu.0 (task c) sound on (left c)) c.take.ensures.rebacked)
+    let long = shown-long (mid c) shown c.args.vcpu.0 c.show_again.ensures.shown in
+    let done = remade-shown old (mid c) shown c.show_again.ensures.same long (left-remade old (mid c) c.args.vcpu.0 (task c) sound on (left c)) in
+    sound-remade old new sound on (remade-rebacked old shown new done c.take.ensures.rebacked)
     (λ r u is. sound.loaded r u (sym (loaded r) ∙ is))
     (well c.row_keeps.ensures.coherent c.row_keeps.ensures.uses_live (state_of old) (state_of new) (Emulate processor c.args.vcpu) (is-well going) (inr (row c p act.traps)) (c.take.ensures.rebacked.ended ∙ stays.end ∙ on))
 
@@ -121,7 +127,8 @@ pub returns-clause-stays : goal.returns-clause-stays
 unfolding left mid task taken-still
 returns-clause-stays c =
     let old = c.args.self.now in
-    let stays = left-stays old (mid c) c.args.vcpu.0 (task c) (left c) in
+    let shown = c.show_again.new.self in
+    let stays = shown-stays (state_of old) (mid c) shown c.show_again.ensures.same (left-stays old (mid c) c.args.vcpu.0 (task c) (left c)) in
     record {
       loaded = λ r. ap (λ (s : GuestState). (processor s r).loaded) (c.take.ensures.taken (taken-still c)) ∙ stays.loaded r;
       end = c.take.ensures.rebacked.ended ∙ stays.end;

@@ -8,7 +8,7 @@ use Rattle.guest_course.proofs.course.Course.packet_hurdle.Goals as goal
 pub hurdle-requires : goal.hurdle-requires
 hurdle-requires c =
     let going = c.requires.sound.going c.requires.goes_on.not_ended in
-    going.coherent.armed_page c.in-Some.page.0 (sym c.armed.ensures ∙ ap (option_map (λ (p : Ppn). p.0)) c.in-Some.is)
+    going.coherent.consistent.armed_page c.in-Some.page.0 (sym c.armed.ensures ∙ ap (option_map (λ (p : Ppn). p.0)) c.in-Some.is)
 
 pub returns-in-Some : goal.returns-in-Some
 returns-in-Some c =

@@ -15,118 +15,125 @@ use Rattle.guest_course.proofs.course.Course.step_noted.Goals as goal
 
 pub note-requires : goal.note-requires
 note-requires c =
-    let made : Made c.args.self.now c.hardware.new.self c.args.processor.0 c.args.vcpu.0 c.in-Direct.access = record {
+    let made : Made c.args.self.now c.stepped.new.self c.args.processor.0 c.args.vcpu.0 c.in-Direct.access = record {
       sound = c.requires.sound;
       may = c.requires.may;
-      hardware = record { same = c.hardware.ensures.same; spares = c.hardware.ensures.spares; devs = c.hardware.ensures.devs; agree = c.hardware.ensures.agree };
+      words = c.page_words_are_taken.ensures;
+      hardware = record { same = c.stepped.ensures.same; blocks = c.stepped.ensures.blocks; spares = c.stepped.ensures.spares; devs = c.stepped.ensures.devs; agree = c.stepped.ensures.agree };
       executed = c.in-Direct.ensures.executes;
     } in
-    note-within c.args.self.now c.hardware.new.self c.args.processor.0 c.args.vcpu.0 c.in-Direct.access made c.steps_reach_pages.ensures
+    note-within c.args.self.now c.stepped.new.self c.args.processor.0 c.args.vcpu.0 c.in-Direct.access made c.steps_reach_pages.ensures
 
 pub returns-in-Direct-clause-executes : goal.returns-in-Direct-clause-executes
 returns-in-Direct-clause-executes c =
-    let made : Made c.args.self.now c.hardware.new.self c.args.processor.0 c.args.vcpu.0 c.in-Direct.access = record {
+    let made : Made c.args.self.now c.stepped.new.self c.args.processor.0 c.args.vcpu.0 c.in-Direct.access = record {
       sound = c.requires.sound;
       may = c.requires.may;
-      hardware = record { same = c.hardware.ensures.same; spares = c.hardware.ensures.spares; devs = c.hardware.ensures.devs; agree = c.hardware.ensures.agree };
+      words = c.page_words_are_taken.ensures;
+      hardware = record { same = c.stepped.ensures.same; blocks = c.stepped.ensures.blocks; spares = c.stepped.ensures.spares; devs = c.stepped.ensures.devs; agree = c.stepped.ensures.agree };
       executed = c.in-Direct.ensures.executes;
     } in
-    executes c.args.self.now c.hardware.new.self c.note.new.self c.args.processor.0 c.args.vcpu.0 c.in-Direct.access made c.note.ensures.state
+    executes c.args.self.now c.stepped.new.self c.note.new.self c.args.processor.0 c.args.vcpu.0 c.in-Direct.access made c.note.ensures.state
 
 pub returns-in-Direct-clause-sound : goal.returns-in-Direct-clause-sound
 returns-in-Direct-clause-sound c =
     let old = c.args.self.now in
-    let made : Made old c.hardware.new.self c.args.processor.0 c.args.vcpu.0 c.in-Direct.access = record {
+    let made : Made old c.stepped.new.self c.args.processor.0 c.args.vcpu.0 c.in-Direct.access = record {
       sound = c.requires.sound;
       may = c.requires.may;
-      hardware = record { same = c.hardware.ensures.same; spares = c.hardware.ensures.spares; devs = c.hardware.ensures.devs; agree = c.hardware.ensures.agree };
+      words = c.page_words_are_taken.ensures;
+      hardware = record { same = c.stepped.ensures.same; blocks = c.stepped.ensures.blocks; spares = c.stepped.ensures.spares; devs = c.stepped.ensures.devs; agree = c.stepped.ensures.agree };
       executed = c.in-Direct.ensures.executes;
     } in
-    let row = (executes old c.hardware.new.self c.note.new.self c.args.processor.0 c.args.vcpu.0 c.in-Direct.access made c.note.ensures.state).row in
+    let row = (executes old c.stepped.new.self c.note.new.self c.args.processor.0 c.args.vcpu.0 c.in-Direct.access made c.note.ensures.state).row in
     let going = c.requires.sound.going c.requires.may.goes_on.not_ended in
-    let noted : Noted c.hardware.new.self c.note.new.self = record { same = c.note.ensures.same; dues = c.note.ensures.dues; counted = c.note.ensures.counted } in
-    let co = well c.row_keeps.ensures.coherent c.row_keeps.ensures.uses_live (state_of old) (state_of c.note.new.self) (Direct c.args.processor c.args.vcpu) (is-well going) row (ap (λ x. x.ended) c.note.ensures.same ∙ ap (λ x. x.ended) c.hardware.ensures.same ∙ c.requires.may.goes_on.not_ended) in
-    sound-after old c.hardware.new.self c.note.new.self c.args.processor.0 c.args.vcpu.0 c.in-Direct.access made noted co
+    let noted : Noted c.stepped.new.self c.note.new.self = record { same = c.note.ensures.same; dues = c.note.ensures.dues; counted = c.note.ensures.counted } in
+    let co = well c.row_keeps.ensures.coherent c.row_keeps.ensures.uses_live (state_of old) (state_of c.note.new.self) (Direct c.args.processor c.args.vcpu) (is-well going) row (ap (λ x. x.ended) c.note.ensures.same ∙ ap (λ x. x.ended) c.stepped.ensures.same ∙ c.requires.may.goes_on.not_ended) in
+    sound-after old c.stepped.new.self c.note.new.self c.args.processor.0 c.args.vcpu.0 c.in-Direct.access made noted co
 
 pub returns-in-Trap-clause-executes : goal.returns-in-Trap-clause-executes
 returns-in-Trap-clause-executes c =
-    let hardware : Hardware c.args.self.now c.hardware.new.self = record { same = c.hardware.ensures.same; spares = c.hardware.ensures.spares; devs = c.hardware.ensures.devs; agree = c.hardware.ensures.agree } in
-    traps c.args.self.now c.hardware.new.self c.args.processor.0 c.args.vcpu.0 c.in-Trap.cause c.requires.sound c.requires.may hardware c.in-Trap.ensures.executes
+    let hardware : Hardware c.args.self.now c.stepped.new.self c.args.vcpu.0 = record { same = c.stepped.ensures.same; blocks = c.stepped.ensures.blocks; spares = c.stepped.ensures.spares; devs = c.stepped.ensures.devs; agree = c.stepped.ensures.agree } in
+    traps c.args.self.now c.stepped.new.self c.args.processor.0 c.args.vcpu.0 c.in-Trap.cause c.requires.sound c.requires.may hardware c.in-Trap.ensures.executes
 
 pub returns-in-Trap-clause-sound : goal.returns-in-Trap-clause-sound
 returns-in-Trap-clause-sound c =
-    let hardware : Hardware c.args.self.now c.hardware.new.self = record { same = c.hardware.ensures.same; spares = c.hardware.ensures.spares; devs = c.hardware.ensures.devs; agree = c.hardware.ensures.agree } in
-    sound-stays c.args.self.now c.hardware.new.self c.args.processor.0 c.args.vcpu.0 c.in-Trap.cause c.requires.sound hardware c.in-Trap.ensures.executes
+    let hardware : Hardware c.args.self.now c.stepped.new.self c.args.vcpu.0 = record { same = c.stepped.ensures.same; blocks = c.stepped.ensures.blocks; spares = c.stepped.ensures.spares; devs = c.stepped.ensures.devs; agree = c.stepped.ensures.agree } in
+    sound-stays c.args.self.now c.stepped.new.self c.args.processor.0 c.args.vcpu.0 c.in-Trap.cause c.requires.sound hardware c.in-Trap.ensures.executes
 
 pub returns-in-Direct-clause-goes_on : goal.returns-in-Direct-clause-goes_on
 returns-in-Direct-clause-goes_on c =
-    let made : Made c.args.self.now c.hardware.new.self c.args.processor.0 c.args.vcpu.0 c.in-Direct.access = record {
+    let made : Made c.args.self.now c.stepped.new.self c.args.processor.0 c.args.vcpu.0 c.in-Direct.access = record {
       sound = c.requires.sound;
       may = c.requires.may;
-      hardware = record { same = c.hardware.ensures.same; spares = c.hardware.ensures.spares; devs = c.hardware.ensures.devs; agree = c.hardware.ensures.agree };
+      words = c.page_words_are_taken.ensures;
+      hardware = record { same = c.stepped.ensures.same; blocks = c.stepped.ensures.blocks; spares = c.stepped.ensures.spares; devs = c.stepped.ensures.devs; agree = c.stepped.ensures.agree };
       executed = c.in-Direct.ensures.executes;
     } in
-    let noted : Noted c.hardware.new.self c.note.new.self = record { same = c.note.ensures.same; dues = c.note.ensures.dues; counted = c.note.ensures.counted } in
-    step-goes-on c.args.self.now c.hardware.new.self c.note.new.self c.args.processor.0 c.args.vcpu.0 c.in-Direct.access made noted
+    let noted : Noted c.stepped.new.self c.note.new.self = record { same = c.note.ensures.same; dues = c.note.ensures.dues; counted = c.note.ensures.counted } in
+    step-goes-on c.args.self.now c.stepped.new.self c.note.new.self c.args.processor.0 c.args.vcpu.0 c.in-Direct.access made noted
 
 pub returns-in-Direct-clause-runs : goal.returns-in-Direct-clause-runs
 returns-in-Direct-clause-runs c =
-    let made : Made c.args.self.now c.hardware.new.self c.args.processor.0 c.args.vcpu.0 c.in-Direct.access = record {
+    let made : Made c.args.self.now c.stepped.new.self c.args.processor.0 c.args.vcpu.0 c.in-Direct.access = record {
       sound = c.requires.sound;
       may = c.requires.may;
-      hardware = record { same = c.hardware.ensures.same; spares = c.hardware.ensures.spares; devs = c.hardware.ensures.devs; agree = c.hardware.ensures.agree };
+      words = c.page_words_are_taken.ensures;
+      hardware = record { same = c.stepped.ensures.same; blocks = c.stepped.ensures.blocks; spares = c.stepped.ensures.spares; devs = c.stepped.ensures.devs; agree = c.stepped.ensures.agree };
       executed = c.in-Direct.ensures.executes;
     } in
-    let noted : Noted c.hardware.new.self c.note.new.self = record { same = c.note.ensures.same; dues = c.note.ensures.dues; counted = c.note.ensures.counted } in
-    step-runs c.args.self.now c.hardware.new.self c.note.new.self c.args.processor.0 c.args.vcpu.0 c.in-Direct.access made noted
+    let noted : Noted c.stepped.new.self c.note.new.self = record { same = c.note.ensures.same; dues = c.note.ensures.dues; counted = c.note.ensures.counted } in
+    step-runs c.args.self.now c.stepped.new.self c.note.new.self c.args.processor.0 c.args.vcpu.0 c.in-Direct.access made noted
 
 pub returns-in-Trap-clause-goes_on : goal.returns-in-Trap-clause-goes_on
 returns-in-Trap-clause-goes_on c =
-    let hardware : Hardware c.args.self.now c.hardware.new.self = record { same = c.hardware.ensures.same; spares = c.hardware.ensures.spares; devs = c.hardware.ensures.devs; agree = c.hardware.ensures.agree } in
-    let stays = traps c.args.self.now c.hardware.new.self c.args.processor.0 c.args.vcpu.0 c.in-Trap.cause c.requires.sound c.requires.may hardware c.in-Trap.ensures.executes in
+    let hardware : Hardware c.args.self.now c.stepped.new.self c.args.vcpu.0 = record { same = c.stepped.ensures.same; blocks = c.stepped.ensures.blocks; spares = c.stepped.ensures.spares; devs = c.stepped.ensures.devs; agree = c.stepped.ensures.agree } in
+    let stays = traps c.args.self.now c.stepped.new.self c.args.processor.0 c.args.vcpu.0 c.in-Trap.cause c.requires.sound c.requires.may hardware c.in-Trap.ensures.executes in
     subst GoesOn (sym stays.same) c.requires.may.goes_on
 
 pub returns-in-Trap-clause-runs : goal.returns-in-Trap-clause-runs
 returns-in-Trap-clause-runs c =
-    let hardware : Hardware c.args.self.now c.hardware.new.self = record { same = c.hardware.ensures.same; spares = c.hardware.ensures.spares; devs = c.hardware.ensures.devs; agree = c.hardware.ensures.agree } in
-    let stays = traps c.args.self.now c.hardware.new.self c.args.processor.0 c.args.vcpu.0 c.in-Trap.cause c.requires.sound c.requires.may hardware c.in-Trap.ensures.executes in
+    let hardware : Hardware c.args.self.now c.stepped.new.self c.args.vcpu.0 = record { same = c.stepped.ensures.same; blocks = c.stepped.ensures.blocks; spares = c.stepped.ensures.spares; devs = c.stepped.ensures.devs; agree = c.stepped.ensures.agree } in
+    let stays = traps c.args.self.now c.stepped.new.self c.args.processor.0 c.args.vcpu.0 c.in-Trap.cause c.requires.sound c.requires.may hardware c.in-Trap.ensures.executes in
     subst (λ s. Runs s c.args.processor.0 c.args.vcpu.0) (sym stays.same) c.requires.may.runs
 
 pub returns-in-Direct-clause-window : goal.returns-in-Direct-clause-window
 returns-in-Direct-clause-window c =
-    let made : Made c.args.self.now c.hardware.new.self c.args.processor.0 c.args.vcpu.0 c.in-Direct.access = record {
+    let made : Made c.args.self.now c.stepped.new.self c.args.processor.0 c.args.vcpu.0 c.in-Direct.access = record {
       sound = c.requires.sound;
       may = c.requires.may;
-      hardware = record { same = c.hardware.ensures.same; spares = c.hardware.ensures.spares; devs = c.hardware.ensures.devs; agree = c.hardware.ensures.agree };
+      words = c.page_words_are_taken.ensures;
+      hardware = record { same = c.stepped.ensures.same; blocks = c.stepped.ensures.blocks; spares = c.stepped.ensures.spares; devs = c.stepped.ensures.devs; agree = c.stepped.ensures.agree };
       executed = c.in-Direct.ensures.executes;
     } in
-    let noted : Noted c.hardware.new.self c.note.new.self = record { same = c.note.ensures.same; dues = c.note.ensures.dues; counted = c.note.ensures.counted } in
-    window-made c.args.self.now c.hardware.new.self c.note.new.self c.args.processor.0 c.args.vcpu.0 c.in-Direct.access made noted c.hardware.new.window c.hardware.ensures.window
+    let noted : Noted c.stepped.new.self c.note.new.self = record { same = c.note.ensures.same; dues = c.note.ensures.dues; counted = c.note.ensures.counted } in
+    window-made c.args.self.now c.stepped.new.self c.note.new.self c.args.processor.0 c.args.vcpu.0 c.in-Direct.access made noted c.stepped.new.window c.stepped.ensures.window
 
 pub returns-in-Direct-clause-quiet : goal.returns-in-Direct-clause-quiet
 returns-in-Direct-clause-quiet c n quiet =
-    let made : Made c.args.self.now c.hardware.new.self c.args.processor.0 c.args.vcpu.0 c.in-Direct.access = record {
+    let made : Made c.args.self.now c.stepped.new.self c.args.processor.0 c.args.vcpu.0 c.in-Direct.access = record {
       sound = c.requires.sound;
       may = c.requires.may;
-      hardware = record { same = c.hardware.ensures.same; spares = c.hardware.ensures.spares; devs = c.hardware.ensures.devs; agree = c.hardware.ensures.agree };
+      words = c.page_words_are_taken.ensures;
+      hardware = record { same = c.stepped.ensures.same; blocks = c.stepped.ensures.blocks; spares = c.stepped.ensures.spares; devs = c.stepped.ensures.devs; agree = c.stepped.ensures.agree };
       executed = c.in-Direct.ensures.executes;
     } in
-    let noted : Noted c.hardware.new.self c.note.new.self = record { same = c.note.ensures.same; dues = c.note.ensures.dues; counted = c.note.ensures.counted } in
-    quiet-made c.quiet_steps_pass.ensures c.args.self.now c.hardware.new.self c.note.new.self c.args.processor.0 c.args.vcpu.0 c.in-Direct.access made noted n quiet
+    let noted : Noted c.stepped.new.self c.note.new.self = record { same = c.note.ensures.same; dues = c.note.ensures.dues; counted = c.note.ensures.counted } in
+    quiet-made c.quiet_steps_pass.ensures c.args.self.now c.stepped.new.self c.note.new.self c.args.processor.0 c.args.vcpu.0 c.in-Direct.access made noted n quiet
 
 pub returns-in-Trap-clause-window : goal.returns-in-Trap-clause-window
 returns-in-Trap-clause-window c =
-    let hardware : Hardware c.args.self.now c.hardware.new.self = record { same = c.hardware.ensures.same; spares = c.hardware.ensures.spares; devs = c.hardware.ensures.devs; agree = c.hardware.ensures.agree } in
-    window-trap c.args.self.now c.hardware.new.self c.args.processor.0 c.args.vcpu.0 c.in-Trap.cause hardware c.in-Trap.ensures.executes c.hardware.new.window c.hardware.ensures.window
+    let hardware : Hardware c.args.self.now c.stepped.new.self c.args.vcpu.0 = record { same = c.stepped.ensures.same; blocks = c.stepped.ensures.blocks; spares = c.stepped.ensures.spares; devs = c.stepped.ensures.devs; agree = c.stepped.ensures.agree } in
+    window-trap c.args.self.now c.stepped.new.self c.args.processor.0 c.args.vcpu.0 c.in-Trap.cause hardware c.in-Trap.ensures.executes c.stepped.new.window c.stepped.ensures.window
 
 pub returns-in-Trap-clause-quiet : goal.returns-in-Trap-clause-quiet
-returns-in-Trap-clause-quiet c n quiet = quiet-trap c.args.self.now c.hardware.new.self c.args.processor.0 c.args.vcpu.0 c.in-Trap.cause c.in-Trap.ensures.executes n quiet
+returns-in-Trap-clause-quiet c n quiet = quiet-trap c.args.self.now c.stepped.new.self c.args.processor.0 c.args.vcpu.0 c.in-Trap.cause c.in-Trap.ensures.executes n quiet
 
 pub returns-in-Direct-clause-none : goal.returns-in-Direct-clause-none
-returns-in-Direct-clause-none c access is none = c.note.ensures.none (let same : c.in-Direct.access ≡ access = cc in ap (λ (x : Access). x.«data») same ∙ none) ∙ ap (λ x. x.due) c.hardware.ensures.same
+returns-in-Direct-clause-none c access is none = c.note.ensures.none (let same : c.in-Direct.access ≡ access = cc in ap (λ (x : Access). x.«data») same ∙ none) ∙ ap (λ x. x.due) c.stepped.ensures.same
 
 pub returns-in-Direct-clause-chosen : goal.returns-in-Direct-clause-chosen
 returns-in-Direct-clause-chosen c had =
     let p = c.args.processor.0 in
     subst (λ (t : GuestState). due_on t p ≢ None) (sym c.note.ensures.state)
-    (data-kept (state_of c.hardware.new.self) p c.in-Direct.access.«data» (subst (λ (x : Vec (Option Wish)). get_or (map due_of x.items) p None ≢ None) (sym (ap (λ x. x.due) c.hardware.ensures.same)) had))
+    (data-kept (state_of c.stepped.new.self) p c.in-Direct.access.«data» (subst (λ (x : Vec (Option Wish)). get_or (map due_of x.items) p None ≢ None) (sym (ap (λ x. x.due) c.stepped.ensures.same)) had))

@@ -7,7 +7,7 @@ use Rattle.wire_queue.proofs.wires.Wires.new.Goals as goal
 pub connect_all-requires : goal.connect_all-requires
 connect_all-requires c =
     none_made c.args.guests (terms_of c.args.shape.now c.args.homes.now) (ids_of c.in_ok-rows.rows.items) c.in_ok-lists.lists.items c.in_ok-rows.ensures c.in_ok-lists.ensures.sends
-    c.in_ok-lists.ensures.takes c.in_ok-lists.ensures.guests
+    c.in_ok-lists.ensures.takes c.in_ok-lists.ensures.asks c.in_ok-lists.ensures.guests
 
 pub returns-clause-passes : goal.returns-clause-passes
 returns-clause-passes c =
