@@ -18,10 +18,12 @@ from reference import Ask, Collapse, DiskFile, Fail, Input, Machine, Migrate, Mo
 from reference.audit import Audit
 from reference.host import Answer, Seat
 from reference.moves import Kind
-from rows.programs import COUNTS, PRINTS_A, READS_A_BLOCK, SENDS_A_PAGE
-from rows.writing import listing
+from rows.programs import COUNTS, FIVE_READS, PRINTS_A, READS_A_BLOCK, SENDS_A_PAGE
+from rows.writing import listing, words
 
 BLOCK = b"a".rjust(4, b"\0").ljust(4096, b"\0")
+
+FIVE_LOADS = words(FIVE_READS)  # from page 1
 
 # virtual processor 1 goes to the second part
 FIRST_PART = """
@@ -374,6 +376,31 @@ def a_processor_that_does_nothing_is_waited_for() -> None:
     pair.close()
 
 
+def a_step_meets_a_replica_in_a_failed_cell() -> None:
+    """The processor of node 2 reads page 1 by the replica on node 1, whose cell fails. The guest goes on, and its next load collapses the page."""
+    machine = Machine([[0], [1], [2]], 8, [0], [2], lends=[0, 1, 0])
+    monitor = Monitor([Start(FIVE_LOADS, KERNEL, 4, 1)], [0], machine, Policy())
+    audit = Audit(monitor)
+    guest = monitor.guests[0]
+    assert list(monitor.ask(Ask(0, 0, Replicate(1, 1)))) == [Answer.FINISHED]
+    seat = guest.host.load(0, 0)
+
+    def expect(*answers: Answer) -> None:
+        for answer in answers:
+            assert guest.turn(seat) is answer
+            monitor.watch(guest, seat, answer)
+
+    expect(Answer.REFILLED, Answer.STEPPED, Answer.REFILLED, Answer.STEPPED)
+    assert not guest.host.uses(1)
+    assert list(monitor.fail(Fail(0, 1))) == [Answer.CELL_FAILED]
+    assert not guest.has_ended
+    expect(Answer.BEGUN, Answer.ACKNOWLEDGED, Answer.FINISHED, Answer.REFILLED, Answer.STEPPED)
+    assert not guest.host.pages[1].replicas
+    guest.host.unload(seat)
+    monitor.close()
+    audit.look_at_end()
+
+
 class Prints:
     """Two guests that print, at home in cell 0, and processors 0 and 1 of cells 0 and 1; guest 0 is loaded on one."""
 
@@ -487,6 +514,7 @@ TURNS: list[Callable[[], None]] = [
     a_packet_is_taken_by_a_halted_virtual_processors_turn,
     input_joins_with_the_step,
     a_processor_that_does_nothing_is_waited_for,
+    a_step_meets_a_replica_in_a_failed_cell,
     a_guest_ends_that_is_loaded_in_the_cell,
     a_guest_goes_on_that_was_loaded_in_the_cell_before,
     a_guest_ends_whose_page_is_about_to_move_there,

@@ -1,12 +1,13 @@
 #!/usr/bin/env python3
 """Random descriptions that several processors carry out at once, run by disco for as long as it takes.
 
-    python3 bench/soak.py DISCO [RUNS] [SEED] [--seconds SECONDS] [--failing PROBABILITY]
+    python3 bench/soak.py DISCO [RUNS] [SEED] [--seconds SECONDS] [--failing PROBABILITY] [--wide]
 
 DISCO is the built program. Run number n of RUNS (100 if none is given) is that of the seed SEED + n (SEED is 0 if
 none is given): two to eight guests of one to four virtual processors on two to eight processors, each guest's runs
 on any of them or all on one, with moves by the plan and by a policy, shared disks, packets and whole pages between
-guests, and in so many of the runs as the PROBABILITY says (half of them) one or two cells that fail.
+guests, and in so many of the runs as the PROBABILITY says (half of them) one or two cells that fail. With --wide each run is of
+eight guests on 32 processors and eight cells, of which seven fail.
 Each run of `disco --machine` has to end within the SECONDS (60), with status 0 and a report of all guests. Of each
 report are checked:
     - that there is a line for each failure, in the order of the plan, with exactly the guests that end by that cell;
@@ -31,7 +32,7 @@ from collections import Counter
 from collections.abc import Iterator
 
 from generator.scenario import Scenario
-from generator.soaking import soaking_run
+from generator.soaking import soaking_run, wide_run
 from random_guests import probability
 from reference import Fail, Run
 from reference.plan import processor_of
@@ -127,9 +128,8 @@ def count(made: Scenario, report: Report, total: Counter[str]) -> None:
         total.update(guest.sums)
 
 
-def soak(disco: pathlib.Path, seed: int, failing: float, seconds: float, total: Counter[str]) -> bool:
+def soak(disco: pathlib.Path, seed: int, made: Scenario, seconds: float, total: Counter[str]) -> bool:
     """Whether the run of a seed is as it has to be. The folder of one that isn't is kept."""
-    made = soaking_run(seed, failing)
     folder = pathlib.Path(tempfile.mkdtemp(prefix=f"soak_{seed}_"))
     write_files(folder, made.description(), made.files)
     try:
@@ -161,10 +161,13 @@ def main() -> int:
         metavar="PROBABILITY",
         help="in how many of the runs cells fail (0.5)",
     )
+    parser.add_argument("--wide", action="store_true", help="32 processors, 8 guests, and 8 cells of which seven fail")
     given = parser.parse_args()
     total = Counter[str]()
-    seeds = range(given.seed, given.seed + given.runs)
-    wrong = sum(not soak(given.disco, seed, given.failing, given.seconds, total) for seed in seeds)
+    wrong = 0
+    for seed in range(given.seed, given.seed + given.runs):
+        made = wide_run(seed) if given.wide else soaking_run(seed, given.failing)
+        wrong += not soak(given.disco, seed, made, given.seconds, total)
     for name, times in total.items():
         print(f"{name:30} {times}")
     print(f"{wrong} of the runs aren't as they have to be" if wrong else "all as they have to be")

@@ -10,7 +10,8 @@ there is a C compiler; how many times as long 2 and 4 guests on as many processo
 million of each, and the same of as many runs of one guest that begin at once and of as many plain.c in threads, which is what the machine gives
 (it takes some milliseconds until threads that begin at once have a processor each); and the peak memory of 16,000,000 steps of loop. With --other, a program with the same command line, that one runs in turns
 with the first, and its time counts as a multiple. Each is run N times (3), and the shortest counts. With --count, the host's instructions a
-step, counted by valgrind over 100,000 steps beyond the first 10,000, which other work on the machine doesn't disturb."""
+step, counted by valgrind over 100,000 steps beyond the first 10,000, which other work on the machine doesn't disturb, also on machines of
+16 and 32 processors."""
 
 import argparse
 import math
@@ -26,6 +27,7 @@ HERE = pathlib.Path(__file__).parent
 GUESTS = ("sha", "walk", "stores", "spaces")
 STEPS = 16_000_000  # the most that a plan may have
 PAGES = 64
+MACHINES = (16, 32)  # with so many processors
 LOOP = "start: j start\naddiu $0, $0, 0\n"
 
 
@@ -37,9 +39,9 @@ def image_of(disco, text, folder):
     return bytes.fromhex("".join(listing.split("file image.elf")[1].split("\n")[1:]))
 
 
-def description(image, guests, steps):
-    """So many guests of one image, each on a processor of its own, for so many steps."""
-    nodes = ", ".join(["0"] * guests)
+def description(image, guests, steps, processors=0):
+    """So many guests of one image, each on a processor of its own, for so many steps. The machine has no processor more, or so many."""
+    nodes = ", ".join(["0"] * max(guests, processors))
     text = f"[machine]\nnodes = 1\nframes = {PAGES * guests}\nprocessors = [{nodes}]\n"
     text += guests * f'[[guest]]\nimage = "{image}"\npages = {PAGES}\nvcpus = 1\nnode = 0\n'
     for number in range(guests):
@@ -126,12 +128,12 @@ def instructions(words, folder):
     return int(re.search(r"Collected : (\d+)", said)[1])
 
 
-def counted(program, how, image, folder):
-    """The host's instructions a step, in the long run."""
+def counted(program, how, image, folder, processors=0):
+    """The host's instructions a step, in the long run, on a machine of so many processors."""
     first, all_of_them = 10_000, 110_000
     counts = []
     for steps in (first, all_of_them):
-        (folder / "count.toml").write_text(description(image, 1, steps))
+        (folder / "count.toml").write_text(description(image, 1, steps, processors))
         counts.append(instructions([program, how, "count.toml"], folder))
     return (counts[1] - counts[0]) / (all_of_them - first)
 
@@ -159,6 +161,8 @@ def report(name, programs, plain, folder, times, counts):
         for program in programs:
             both = [counted(program, how, f"{name}.elf", folder) for how in ("--private", "--machine")]
             print(f"{name}: {both[0]:.1f} instructions a step alone, {both[1]:.1f} monitored ({program})")
+        many = [f"{counted(programs[0], '--machine', f'{name}.elf', folder, more):.1f} of {more}" for more in MACHINES]
+        print(f"{name}: monitored on machines of more processors {', '.join(many)}")
         if plain:
             print(f"{name}: {plain_counted(plain, name, folder):.1f} instructions a step in plain.c")
 

@@ -38,6 +38,7 @@ class Handlers:
 
     by_page_table: bool  # refills come from a table in memory
     period: int  # of the timer
+    has_register_page: bool = False
 
 
 def refill_by_rule() -> str:
@@ -71,6 +72,28 @@ def refill_by_page_table() -> str:
     """
 
 
+def refill_on_register_page() -> str:
+    """The same from the table, by loads and stores of the register page."""
+    return """
+        lui   k1, 0xCFFF
+        ori   k1, k1, 0xE000
+        lw    k0, 0x10(k1)        # Context
+        lw    k0, 0(k0)
+        sw    k0, 0x08(k1)        # EntryLo0
+        lw    k0, 0x10(k1)
+        lw    k0, 4(k0)
+        sw    k0, 0x0C(k1)        # EntryLo1
+        tlbwr
+        eret
+    """
+
+
+def refill_body(handlers: Handlers) -> str:
+    if not handlers.by_page_table:
+        return refill_by_rule()
+    return refill_on_register_page() if handlers.has_register_page else refill_by_page_table()
+
+
 def refill_vector(handlers: Handlers) -> str:
     """A raw image is entered here too, with no exception being handled. A guest with too many refills gives up."""
     return f"""
@@ -82,7 +105,7 @@ def refill_vector(handlers: Handlers) -> str:
         addiu k1, k1, -1
         blez  k1, give_up
         sw    k1, {REFILLS_LEFT}(k0)
-        {refill_by_page_table() if handlers.by_page_table else refill_by_rule()}
+        {refill_body(handlers)}
     """
 
 

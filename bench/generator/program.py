@@ -75,6 +75,8 @@ WITH_WHOLE_PAGES: Weighted = (
     (24, sharing_pieces.armed_page),
 )
 WITH_MANY_PAGES: Weighted = ((8, system_pieces.sweep),)
+WITH_REGISTER_PAGE: Weighted = ((12, system_pieces.register_page),)
+WITHOUT_REGISTER_PAGE: Weighted = ((1, system_pieces.register_page),)
 
 
 @dataclass(frozen=True)
@@ -87,6 +89,7 @@ class Traits:
     has_packets: bool
     receivers: tuple[int, ...]  # whom it may send to
     shares: bool = False  # does most with few blocks and pages that others have too
+    profile: int = 1
 
     def pieces(self) -> list[Piece]:
         """The pieces that make sense for it, each as often as it is to come."""
@@ -97,6 +100,7 @@ class Traits:
             *self.packet_pieces(),
             *(WITH_MANY_PAGES if self.pages > 48 else ()),
             *(WITH_SHARING if self.shares else ()),
+            *(WITH_REGISTER_PAGE if self.profile == 2 else WITHOUT_REGISTER_PAGE),
         ]
         return [piece for weight, piece in rows for _ in range(weight)]
 
@@ -108,7 +112,11 @@ class Traits:
 
 def image(random: Random, traits: Traits) -> bytes:
     """The memory of a guest of these traits, whose kernel begins at the first word and whose program at its own."""
-    handlers = Handlers(by_page_table=random.random() < 0.3, period=random.choice((60, 70, 100, 250, 1000)))
+    handlers = Handlers(
+        by_page_table=random.random() < 0.3,
+        period=random.choice((60, 70, 100, 250, 1000)),
+        has_register_page=traits.profile == 2,
+    )
     code = Assembler(KERNEL)
     put_handlers(code, handlers)
     code.add(*kept_words(random, traits))

@@ -118,6 +118,7 @@ def sharing_traits(random: Random, guests: int, together: bool) -> Traits:
         has_packets=together,
         receivers=receivers if together else (GUESTS_MOST, 9, 0xFFFF_FFFF),
         shares=True,
+        profile=random.choice((1, 2)),
     )
 
 
@@ -131,6 +132,11 @@ def put_tight_machine(made: Scenario, random: Random, processors: int, traits: l
     made.homes = [random.randrange(nodes) for _ in traits]
     made.cache = random.choice((0, 1, 1, 2, 3, 4, 6))
     made.cells = random_cells(random, nodes)
+    put_tight_frames(made, random, nodes, traits)
+
+
+def put_tight_frames(made: Scenario, random: Random, nodes: int, traits: list[Traits]) -> None:
+    """Just so many frames on each node that the guests are let in, or a few more, and what each cell lends."""
     made.lends = [random.choice((0, 1, 3, 10, 1000)) if len(made.cells) > 1 else 0 for _ in made.cells]
     made.frames = 1
     while not fits(made.machine(), traits):
@@ -174,6 +180,7 @@ def guest_traits(random: Random, guests: int, together: bool) -> Traits:
         has_disk=random.random() < 0.5,
         has_packets=together,
         receivers=receivers,
+        profile=random.choice((1, 2)),
     )
 
 
@@ -205,6 +212,7 @@ def put_guest(made: Scenario, random: Random, number: int, traits: Traits) -> No
         made.homes.append(random.choice(made.machine().nodes()))
     made.lines.append(f"node = {made.homes[number]}")
     made.lines += ['form = "raw"'] * is_raw + [f'disk = "{disk_name}"'] * traits.has_disk
+    made.lines += [f"profile = {traits.profile}"] * (traits.profile != 1)
     made.starts.append(
         Start(
             image=memory,
@@ -213,6 +221,7 @@ def put_guest(made: Scenario, random: Random, number: int, traits: Traits) -> No
             processors=traits.processors,
             disk=DiskFile(disk_name, made.files[disk_name]) if disk_name else None,
             inputs=tuple(inputs(random)),
+            profile=traits.profile,
         )
     )
 
@@ -252,9 +261,9 @@ def put_work(made: Scenario, random: Random, traits: list[Traits], together: boo
     made.plan = [items[number].pop(0) for number in waiting]
 
 
-def put_failures(made: Scenario, random: Random) -> None:
-    """One or two cells fail, at any places of the plan, through any processors."""
-    for cell in random.sample(range(len(made.cells)), min(random.choice((1, 1, 2)), len(made.cells))):
+def put_failures(made: Scenario, random: Random, count: int | None = None) -> None:
+    """So many cells fail, or one or two, at any places of the plan, through any processors."""
+    for cell in random.sample(range(len(made.cells)), count or min(random.choice((1, 1, 2)), len(made.cells))):
         made.plan.insert(random.randrange(len(made.plan) + 1), Fail(random.randrange(len(made.processors)), cell))
 
 

@@ -15,12 +15,38 @@ from .scenario import (
     put_guest,
     put_items,
     put_policy,
+    put_tight_frames,
     put_tight_machine,
     with_asks,
 )
 
 ON_ONE = 0.4  # how many of the guests run on one processor alone
 STEPS_AT_THE_END = 50_000  # enough for most guests to halt
+
+
+WIDEST = 8  # nodes, cells and guests
+MOST_PROCESSORS = 32
+
+
+def wide_run(seed: int) -> Scenario:
+    """The run of a seed on the widest machine: 32 processors, 8 guests, and 8 cells of one node, of which all but one fail."""
+    random = Random(f"is wide {seed}")
+    made = Scenario()
+    made.files = {name: disk(random, random.choice(sizes)) for name, sizes in SHARED_DISKS.items()}
+    traits = [soaking_traits(random, WIDEST) for _ in range(WIDEST)]
+    made.hosts = [random.randrange(MOST_PROCESSORS) for _ in traits]
+    made.processors = [random.randrange(WIDEST) for _ in range(MOST_PROCESSORS)]
+    made.homes = [random.randrange(WIDEST) for _ in traits]
+    made.cells = [[node] for node in range(WIDEST)]
+    made.cache = random.choice((0, 1, 3))
+    put_tight_frames(made, random, WIDEST, traits)
+    for number, each in enumerate(traits):
+        put_guest(made, random, number, each)
+    put_policy(made, random)
+    put_plan(made, random, traits)
+    put_failures(made, random, WIDEST - 1)
+    put_items(made)
+    return made
 
 
 def soaking_run(seed: int, failing: float) -> Scenario:
@@ -53,6 +79,7 @@ def soaking_traits(random: Random, guests: int) -> Traits:
         has_packets=random.random() < 0.6,
         receivers=receivers if random.random() < 0.6 else (guests, 9, 0xFFFF_FFFF),
         shares=True,
+        profile=random.choice((1, 2)),
     )
 
 

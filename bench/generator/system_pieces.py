@@ -28,6 +28,10 @@ from .pieces import (
     words,
 )
 
+VALUE = 28  # a register within a piece
+REGISTER_PAGE = DEVICE - 0x1000
+PAGED_REGISTERS = ("index", "index", "entrylo0", "entrylo0", "entrylo1", "entrylo1", "epc", "epc", "context", "badvaddr", "entryhi")
+PAGE_LOADS = ("LW", "LW", "LW", "LW", "LW", "LW", "LL", "LH", "LBU")
 STATUS_VALUES = (0, 0, 0xFF01, 0x8001, 0x0101, 0x0301, 0x0401, 0x0801, 0x1001, 0xFF00, 0xFF09, 0xFF19, 0xFF11, 0x0003, 0xFFFF_FFE1)
 USER_STATUS_VALUES = (0x12, 0x12, 0x13, 0xFF13, 0x8013, 0x1013, 0x0A, 0x1A)
 ENTRY_HI_VALUES = (USER_CODE, USER_DATA, USER_DATA + 0x2000, KERNEL_DATA, KERNEL_DATA, USER_DEVICE, 0x8000_0000, 0xFFFF_FFFF)
@@ -82,6 +86,31 @@ def coprocessor(context: Context) -> None:
 def any_coprocessor_register(context: Context) -> None:
     """A register of any number is set, also one that isn't there."""
     context.code.op("MTC0", rt=operands.source(context.random), rd=context.random.choice((1, 4, 5, 7, 8, 9, 14, 15, 16, 23, 31)))
+
+
+def register_page(context: Context) -> None:
+    """Registers are stored and loaded on the register page: mostly those that are there, and at times others, or not as words."""
+    random, code = context.random, context.code
+    for _ in range(random.randrange(1, 4)):
+        register = random.choice(PAGED_REGISTERS)
+        code.constant(SCRATCH, REGISTER_PAGE)
+        if random.random() < 0.6:
+            code.constant(VALUE, coprocessor_value(context, register))
+            code.op("SW", rt=VALUE, rs=SCRATCH, immediate=page_offset(context, register))
+        if random.random() < 0.3:
+            code.op(random.choice(("TLBR", "TLBP", "TLBWI")))
+        result = random.choice(operands.FREE_REGISTERS)
+        code.constant(SCRATCH, REGISTER_PAGE)
+        code.op(random.choice(PAGE_LOADS), rt=result, rs=SCRATCH, immediate=page_offset(context, register))
+        code.listing(add_to_sum(result))
+        code.add(move_from_coprocessor(random))
+
+
+def page_offset(context: Context, register: str) -> int:
+    """Where a register lies on the register page, or mostly nothing does."""
+    if context.random.random() < 0.8:
+        return 4 * COPROCESSOR_REGISTERS[register]
+    return context.random.choice((0x04, 0x10, 0x18, 0x20, 0x24, 0x28, 0x30, 0x34, 0x3C, 0x40, 0xFFC, 0x02, -4))
 
 
 def tlb(context: Context) -> None:

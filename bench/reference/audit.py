@@ -110,7 +110,7 @@ def is_moving(page: Page, kind: Kind) -> bool:
 
 def look_at_page(page: Page) -> None:
     """A shared page has no replicas, frames are of different nodes, and who is waited for is who may name the page."""
-    frames = [page.master, *page.replicas]
+    frames = list(page.frames())
     if is_moving(page, Kind.REPLICATE):
         frames.append(page.move.target)
     assert len({frame.node for frame in frames}) == len(frames)
@@ -125,7 +125,7 @@ def look_at_seat(host: Host, seat: Seat, processor: VirtualProcessor) -> None:
         page = host.pages[half.page]
         assert half.page == page_at(processor, number << 12, asid)
         assert seat.processor in page.mapped
-        assert half.frame in (page.master, *page.replicas)
+        assert half.frame in page.frames()
         if half.is_writable:
             assert page.is_writable()
         elif page.is_writable() and asid in (None, processor.coprocessor.asid):

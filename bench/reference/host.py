@@ -2,6 +2,7 @@
 
 from __future__ import annotations
 
+from collections import Counter
 from collections.abc import Mapping
 from dataclasses import dataclass, field
 from enum import Enum, auto
@@ -76,6 +77,7 @@ class Host(Watcher):
         self.sends_without_frame = 0  # of pages that could have been handed on
         self.accesses = 0
         self.misses = 0
+        self.distances = Counter[int]()  # how many nodes on the frame lies that an access reaches
 
     # processors
 
@@ -93,10 +95,10 @@ class Host(Watcher):
     # cells that fail
 
     def uses(self, cell: int) -> bool:
-        """Whether a frame that the guest holds lies in a cell, or one of its virtual processors is loaded there."""
+        """Whether a frame that the guest needs lies in a cell, or one of its virtual processors is loaded there. A replica is no such frame."""
         nodes = self.machine.cells[cell]
-        is_held = any(frame.node in nodes for frame in self.pages.held())
-        return is_held or any(seat.node in nodes for seat in self.seats.values())
+        is_needed = any(frame.node in nodes for frame in self.pages.needed())
+        return is_needed or any(seat.node in nodes for seat in self.seats.values())
 
     def is_dead(self, node: int) -> bool:
         """Whether the cell of a node has failed."""
@@ -126,6 +128,10 @@ class Host(Watcher):
             self.refill(processor, address, page)
             raise PutOff(Answer.REFILLED)
         assert half.page == page
+        if self.is_dead(half.frame.node):
+            self.pass_move(page)
+            self.begin(page, Kind.COLLAPSE)
+            raise PutOff(Answer.BEGUN)
         if is_store and not half.is_writable:
             self.pass_move(page)
             self.begin_needed(page)
@@ -149,7 +155,7 @@ class Host(Watcher):
         page.mapped.add(self.seat.processor)
         is_global = is_alike_in_all_spaces(processor, address)
         is_writable = page.is_writable() and is_granted_to_stores(processor, address)
-        frame = page.nearest(self.seat.node)
+        frame = page.nearest(self.seat.node, self.is_dead)
         self.seat.tlb.fill(address >> 12, processor.coprocessor.asid, is_global, number, frame, is_writable)
 
     def tlb_written(self, processor: VirtualProcessor, old: Entry, new: Entry) -> None:
@@ -168,6 +174,7 @@ class Host(Watcher):
         seat = self.seat
         assert seat.data.page == number
         self.accesses += 1
+        self.distances[abs(seat.data.frame.node - seat.node)] += 1
         is_miss = seat.data.frame.node != seat.node
         self.pages[number].note(seat.node, is_miss, is_store)
         if is_miss:

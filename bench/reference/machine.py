@@ -26,6 +26,7 @@ class Start:
     processors: int
     disk: DiskFile | None = None
     inputs: tuple[Input, ...] = ()
+    profile: int = 1
 
 
 class StepPutOff(Exception):
@@ -86,6 +87,7 @@ class Guest:
 
     def __init__(self, start: Start, watcher: Watcher) -> None:
         self.pages = start.pages
+        self.has_register_page = start.profile == 2
         self.memory = bytearray(start.image.ljust(PAGE * start.pages, b"\0"))
         self.processors = [VirtualProcessor(self, number, start.entry) for number in range(start.processors)]
         self.devices = Devices(self, start.disk, start.inputs)

@@ -3,6 +3,7 @@
 from __future__ import annotations
 
 from collections import Counter
+from collections.abc import Callable
 from dataclasses import dataclass, field
 from enum import Enum
 from typing import ClassVar
@@ -106,9 +107,17 @@ class Page:
     misses: Counter[int] = field(default_factory=Counter)  # of each node
     is_written: bool = False
 
-    def nearest(self, node: int) -> Frame:
-        """The frame by which a processor of this node reaches the page."""
-        return next((frame for frame in (self.master, *self.replicas) if frame.node == node), self.master)
+    def frames(self) -> tuple[Frame, ...]:
+        return (self.master, *self.replicas)
+
+    def nearest(self, node: int, is_dead: Callable[[int], bool]) -> Frame:
+        """The frame by which a processor of this node reaches the page: the nearest, the lower node's of two as near. None that lies in a
+        cell that has failed."""
+        live = [frame for frame in self.frames() if not is_dead(frame.node)]
+        return min(live, key=lambda frame: (abs(frame.node - node), frame.node))
+
+    def lies_on(self, node: int) -> bool:
+        return any(frame.node == node for frame in self.frames())
 
     def is_writable(self) -> bool:
         return not self.is_shared and not self.replicas
@@ -138,7 +147,7 @@ class Page:
                     return Cause.REPLICATED
                 return Cause.SAME_NODE if self.master.node == node else None
             case Replicate(node=node):
-                return Cause.SAME_NODE if self.nearest(node).node == node else None
+                return Cause.SAME_NODE if self.lies_on(node) else None
             case Collapse():
                 return None if self.replicas else Cause.NO_REPLICA
 

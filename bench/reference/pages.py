@@ -154,11 +154,14 @@ class Pages:
             self.holder.release(frame)
         self.pages, self.spares, self.moving = [], [], set()
 
+    def needed(self) -> list[Frame]:
+        """Each frame without which the guest can't go on, once for each place in which it stands."""
+        targets = [page.move.target for page in self.pages if page.move is not None and page.move.target is not None]
+        return [*(page.master for page in self.pages), *targets, *self.spares]
+
     def held(self) -> list[Frame]:
         """Each frame, once for each place in which it stands."""
-        targets = [page.move.target for page in self.pages if page.move is not None and page.move.target is not None]
-        backing = [frame for page in self.pages for frame in (page.master, *page.replicas)]
-        return [*backing, *targets, *self.spares]
+        return [*self.needed(), *(frame for page in self.pages for frame in page.replicas)]
 
 
 FINISHES = {

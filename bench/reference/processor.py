@@ -2,6 +2,7 @@
 
 from __future__ import annotations
 
+from collections.abc import Collection
 from typing import TYPE_CHECKING
 
 from .coprocessor import Coprocessor0
@@ -14,6 +15,11 @@ if TYPE_CHECKING:
     from .machine import Guest
 
 RETURN_ADDRESS = 31
+
+# the register page: at 4 times their numbers, the registers of coprocessor 0 that are loaded there, and those that are stored
+REGISTER_PAGE = 0xCFFF_E000
+LOADED_REGISTERS = (0, 2, 3, 4, 8, 10, 14)
+STORED_REGISTERS = (0, 2, 3, 14)
 
 Place = tuple[int, int | None]  # a program counter, and in a delay slot the address after it
 
@@ -103,8 +109,18 @@ class VirtualProcessor:
     def load(self, address: int, size: int) -> int:
         return self.read_memory(self.memory_place(address, Use.LOAD, size), size)
 
+    def register_at(self, address: int, numbers: Collection[int]) -> int | None:
+        """The register of coprocessor 0 at an address of the register page, which a kernel may have, if it is one of these."""
+        if not self.guest.has_register_page or self.coprocessor.in_user_mode() or address % 4:
+            return None
+        number = (address - REGISTER_PAGE) // 4
+        return number if number in numbers else None
+
     def load_word(self, address: int) -> int:
-        """LW, which reaches the device page too."""
+        """LW, which reaches the register page and the device page too."""
+        register = self.register_at(address, LOADED_REGISTERS)
+        if register is not None:
+            return self.coprocessor.read(register)
         place = self.physical(address, Use.LOAD, 4)
         if not self.guest.is_device(place):
             return self.read_memory(self.granted(place, address, Use.LOAD), 4)
@@ -128,7 +144,11 @@ class VirtualProcessor:
         self.write_memory(place, (value & (1 << 8 * size) - 1).to_bytes(size, "big"))
 
     def store_word(self, address: int, value: int) -> None:
-        """SW, which reaches the device page too."""
+        """SW, which reaches the register page and the device page too."""
+        register = self.register_at(address, STORED_REGISTERS)
+        if register is not None:
+            self.coprocessor.write(register, value)
+            return
         place = self.physical(address, Use.STORE, 4)
         if not self.guest.is_device(place):
             self.write_memory(self.granted(place, address, Use.STORE), value.to_bytes(4, "big"))

@@ -3,7 +3,7 @@
 from .blocks import READS_BLOCKS
 from .moving import A
 from .packets import SENT, TWO_GUESTS
-from .programs import PRINTS_A, PRINTS_A_WORD, SENDS_A_PAGE, SENDS_FOUR_BYTES
+from .programs import PRINTS_A, PRINTS_A_WORD, READS, SENDS_A_PAGE, SENDS_FOUR_BYTES
 from .reading import Row
 from .writing import cells, failed, failure, guest, machine, moved, runs, told
 
@@ -45,7 +45,19 @@ FAILURES = [
         SENDS_AND_HALTS + told(1, "", "budget", steps=11, refills=1, discarded=1) + failure(1),
     ),
     Row(
-        "a replica there ends the guest",
+        "a page there ends the guest",
+        machine(nodes=2)
+        + cells(0, 1)
+        + ONE_GUEST
+        + runs((0, 2))
+        + moved(0, 1, "migrate", 1)
+        + failed(1)
+        + runs((0, 3)),
+        A,
+        told(0, "", "cell 1", steps=2, refills=1, moves=1) + failure(1, 0),
+    ),
+    Row(
+        "a replica there doesn't",
         machine(nodes=2)
         + cells(0, 1)
         + ONE_GUEST
@@ -54,7 +66,25 @@ FAILURES = [
         + failed(1)
         + runs((0, 3)),
         A,
-        told(0, "", "cell 1", steps=2, refills=1, moves=1) + failure(1, 0),
+        told(0, "A", "halted", steps=5, refills=2, moves=1) + failure(1),
+    ),
+    Row(
+        "a replica there is read, and after the failure the page itself",
+        machine(nodes=3, frames=8, node=2)
+        + cells(0, 1, 0)
+        + ONE_GUEST
+        + moved(0, 1, "replicate", 1)
+        + runs((0, 2))
+        + failed(1)
+        + runs((0, 2)),
+        {"a": READS},
+        told(0, "", "budget", steps=4, refills=4, moves=1) + failure(1),
+    ),
+    Row(
+        "a store lets a replica there go",
+        machine(nodes=2) + cells(0, 1) + ONE_GUEST + moved(0, 1, "replicate", 1) + failed(1) + runs((0, 7)),
+        {"a": READS},
+        told(0, "", "budget", steps=7, refills=3, moves=2) + failure(1),
     ),
     Row(
         "a replica that was let go doesn't",
@@ -120,12 +150,24 @@ FAILURES = [
         machine(nodes=3)
         + cells(0, 0, 1)
         + guest("a", node=1)
-        + moved(0, 1, "replicate", 2)
+        + moved(0, 1, "migrate", 2)
         + failed(2)
         + failed(1)
         + runs((0, 5)),
         A,
         told(0, "", "cell 2", moves=1) + failure(2, 0) + failure(1),
+    ),
+    Row(
+        "with a replica alone in the first, it ends by the second",
+        machine(nodes=3)
+        + cells(0, 0, 1)
+        + guest("a", node=1)
+        + moved(0, 1, "replicate", 2)
+        + failed(2)
+        + failed(1)
+        + runs((0, 5)),
+        A,
+        told(0, "", "cell 1", moves=1) + failure(2) + failure(1, 0),
     ),
     Row(
         "no page moves there any more",
@@ -158,7 +200,7 @@ FAILURES = [
         machine(nodes=3, node=1)
         + cells(0, 0, 5)
         + ONE_GUEST
-        + moved(0, 1, "replicate", 2)
+        + moved(0, 1, "migrate", 2)
         + failed(1)
         + failed(2)
         + runs((0, 5)),

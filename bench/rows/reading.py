@@ -40,7 +40,7 @@ class Row:
 def start_of(guest: dict, files: Files) -> Start:
     """A guest whose image is raw."""
     disk = DiskFile(guest["disk"], files[guest["disk"]]) if "disk" in guest else None
-    return Start(files[guest["image"]], KERNEL, guest["pages"], guest["vcpus"], disk)
+    return Start(files[guest["image"]], KERNEL, guest["pages"], guest["vcpus"], disk, profile=guest.get("profile", 1))
 
 
 def move_of(work: dict) -> PageMove:
