@@ -1,5 +1,5 @@
 -- The copy is the virtual processor itself.
-use Rattle.std.proofs.Common.{rules, ◌≡◌, IfSome, Option, refl, subst}
+use Rattle.std.proofs.Common.{rules, ◌≡◌, IfSome, Option, refl, subst, false}
 use Rattle.base_words.specs.declared.trap.TrapCause.{TrapCause}
 use Rattle.machine_tests.specs.StandIn.{Traps}
 use Rattle.machine_tests.proofs.trap_emulate_rig.step.Goals as goal
