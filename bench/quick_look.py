@@ -25,7 +25,7 @@ def crates_of_tests():
 
 def tried(crate):
     begin = time.monotonic()
-    run = subprocess.run(["rt", "try", "--test"], cwd=TOP / "crates" / crate, stdout=subprocess.PIPE, stderr=subprocess.STDOUT, text=True, errors="replace")
+    run = subprocess.run(["rt", "try", "--test", "--seconds", "300"], cwd=TOP / "crates" / crate, stdout=subprocess.PIPE, stderr=subprocess.STDOUT, text=True, errors="replace")
     return crate, run.returncode, run.stdout, time.monotonic() - begin
 
 
