@@ -4,7 +4,7 @@
     quick_look.py [CRATE ..] [--jobs N]
 
 Calls `rt try --test` in each crate of tests, N at a time (half as many as there are processors), and prints for each what it came to and its
-seconds. Contracts aren't tested, but indices, overflow and `unwrap` are."""
+seconds. A test has five minutes: the slowest of `program_tests` needs more than `rt try` gives it by itself. Contracts aren't tested, but indices, overflow and `unwrap` are."""
 
 import argparse
 import concurrent.futures
