@@ -3,8 +3,10 @@
 
     steps.py DISCO [--other PROGRAM] [--times N] [--count]
 
-The guests are those of guests/: sha (sums and shifts, few loads), walk (a load and a store of each of 40 pages in turn, through the TLB), stores
-(eight steps of eleven are stores) and spaces (four address spaces take turns); and loop, a jump to itself. Prints for each how many million
+The guests are those of guests/: sha (sums and shifts, few loads), memcpy (words from one page to another), sort (an insertion sort of 64
+numbers), walk (a load and a store of each of 40 pages in turn, through the TLB), stores (eight steps of eleven are stores), spaces (four address
+spaces take turns), syscall (a user loop of seven instructions, one of which calls a kernel of six), refill (128 pages through the 48 entries
+of the guest's TLB) and device (a store to the console each six steps); and loop, a jump to itself. Prints for each how many million
 steps a second it makes alone and monitored, and how many times as long a step takes under the monitor; as multiples of the speed of plain.c, where
 there is a C compiler; how many times as long 2 and 4 guests on as many processors take as one does, the whole run and a step beyond the first
 million of each, and the same of as many runs of one guest that begin at once and of as many plain.c in threads, which is what the machine gives
@@ -24,9 +26,9 @@ import tempfile
 import time
 
 HERE = pathlib.Path(__file__).parent
-GUESTS = ("sha", "walk", "stores", "spaces")
+GUESTS = ("sha", "memcpy", "sort", "walk", "stores", "spaces", "syscall", "refill", "device")
 STEPS = 16_000_000  # the most that a plan may have
-PAGES = 64
+PAGES = 160
 MACHINES = (16, 32)  # with so many processors
 LOOP = "start: j start\naddiu $0, $0, 0\n"
 

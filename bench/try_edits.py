@@ -4,10 +4,11 @@
     try_edits.py [CRATE ..]     tries the edits of these crates, or of all
     try_edits.py --named        tells each edit, of the gate too, that docs/PROOFS.md doesn't name
 
-Makes a clone of the commit that is checked out, puts the edits into it in the place of the gate's, and calls `rt must-fail`. Prints each edit
-that isn't refused, or is refused only since a proof file names what the edit took away (no goal and no equation of a clause stands in what
-the prover prints, so it says nothing of the contract), or only by a limit of the prover. Some 25 seconds of one processor an edit, beside a
-check of each crate that has some; a crate whose proof an earlier gate on this machine has kept is not proved again."""
+Makes a clone of the commit that is checked out, puts the edits into it in the place of the gate's, and calls `rt ci` for their crates, which
+tries as many at once as there are processors. Prints each edit that isn't refused, or is refused only since a proof file names what the edit took
+away (no goal and no equation of a clause stands in what the prover prints, so it says nothing of the contract), or only by a limit of the
+prover. Some 25 seconds of one processor an edit, beside a check of each crate that has some; a crate whose proof an earlier gate on this
+machine has kept is not proved again."""
 
 import argparse
 import collections
@@ -37,11 +38,12 @@ def nameless():
     return [place for name, there in sorted(places.items()) if claims.count(f"`{name}`") < len(there) for place in there]
 
 
-def put_edits(clone, crate):
-    """The crate's edits in the place of those that it has."""
-    there = clone / "crates" / crate / "must-fail"
-    shutil.rmtree(there, ignore_errors=True)
-    shutil.copytree(EDITS / crate, there)
+def put_edits(clone, crates):
+    """The edits of these crates in the place of all that the gate tries."""
+    for there in clone.glob("crates/*/must-fail"):
+        shutil.rmtree(there)
+    for crate in crates:
+        shutil.copytree(EDITS / crate, clone / "crates" / crate / "must-fail")
 
 
 def judged(what):
@@ -58,9 +60,8 @@ def tried(crates):
     with tempfile.TemporaryDirectory(prefix="disco-edits-") as room:
         clone = pathlib.Path(room) / "clone"
         subprocess.run(["git", "clone", "--quiet", str(TOP), str(clone)], check=True)
-        for crate in crates:
-            put_edits(clone, crate)
-        run = subprocess.Popen(["rt", "must-fail", *crates], cwd=clone, stdout=subprocess.PIPE, stderr=subprocess.STDOUT, text=True)
+        put_edits(clone, crates)
+        run = subprocess.Popen(["rt", "ci", *crates], cwd=clone, stdout=subprocess.PIPE, stderr=subprocess.STDOUT, text=True)
         for line in run.stdout:
             found = TOLD.match(line.rstrip("\n"))
             if found:

@@ -8,3 +8,5 @@ pub mod AskedLemmas
 pub mod WindowLemmas
 pub mod PlainLemmas
 pub mod StretchLemmas
+pub mod PartsLemmas
+pub mod TouchLemmas

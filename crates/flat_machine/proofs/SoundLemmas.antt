@@ -36,7 +36,7 @@ IsSound-memo m memo sound = record {
 }
 
 -- those that a store unlinks show the same
-shown_by-all-unlinked : (line : ℕ) (xs : List Vcpu) → map shown_by (map (unlinked line) xs) ≡ map shown_by xs
+pub shown_by-all-unlinked : (line : ℕ) (xs : List Vcpu) → map shown_by (map (unlinked line) xs) ≡ map shown_by xs
 shown_by-all-unlinked line [] = refl
 shown_by-all-unlinked line (x ∷ xs) = ap (λ ys. shown_by x ∷ ys) (shown_by-all-unlinked line xs)
 

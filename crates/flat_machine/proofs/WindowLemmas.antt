@@ -1,5 +1,5 @@
 -- What an instruction and a tick leave of a window.
-use Rattle.std.proofs.Common.{◌≡◌, ℕ, zero, suc, ◌<◌, ◌≤◌, ◌+◌, ◌-◌, ◌==◌, if◌then◌else◌, Bool, true, false, List, [], ◌∷◌, length, get_or, set, replicate, Option, None, refl, sym, ap, ◌∙◌, subst, get_or-set_same, arith}
+use Rattle.std.proofs.Common.{◌≡◌, ℕ, zero, suc, ◌<◌, ◌≤◌, ◌+◌, ◌-◌, ◌==◌, if◌then◌else◌, Bool, true, false, List, [], ◌∷◌, length, get_or, set, replicate, None, refl, sym, ap, ◌∙◌, subst, get_or-set_same, arith}
 use Rattle.std.proofs.lemmas.Bool.{eqb-true}
 use Rattle.base_words.specs.declared.regs.Regs.{Regs}
 use Rattle.base_words.specs.declared.coprocessor.Cp0Registers.{Cp0Registers}
@@ -16,8 +16,8 @@ use Rattle.private_machine.specs.PrivateRun.{own_event, private_run}
 use Rattle.base_words.specs.declared.events.OwnEvent.{OwnEvent}
 use Rattle.guest_devs.specs.Arrivals.{NoneJoins}
 use Rattle.guest_devs.specs.Quiet.{AreQuiet}
-use Rattle.flat_machine.specs.declared.window.FetchPage.{FetchPage}
-use Rattle.flat_machine.specs.Windows.{IsFetchPage, IsWindow, Keeps}
+use Rattle.flat_machine.specs.declared.window.KeptPages.{KeptPages}
+use Rattle.flat_machine.specs.Windows.{AreKept, IsWindow, Keeps}
 
 -- ---- before a quiet step
 
@@ -97,10 +97,10 @@ space-ticked k v there = ap space_of (get_or-set_same k.vcpus v (ticking (vcpu k
 space-kept : (m k : PrivateMachine) (v : ℕ) → Keeps m v k → space_of (vcpu k v) ≡ space_of (vcpu m v)
 space-kept m k v keeps = λ i. record { user = in_user_mode (keeps.cp0 i).status; asid = (keeps.cp0 i).entry_hi.asid; entries = keeps.tlb i }
 
-pub fetched-after : (m k : PrivateMachine) (v : ℕ) (page : Option FetchPage) → v < length k.vcpus → Keeps m v k → IsFetchPage (space_of (vcpu m v)) m.pages page → IsFetchPage (space_of (vcpu (on_vcpu k v ticking) v)) k.pages page
-fetched-after m k v page there keeps f =
-    subst (λ (n : ℕ). IsFetchPage (space_of (vcpu (on_vcpu k v ticking) v)) n page) (sym keeps.pages)
-    (subst (λ (s : AddressSpace). IsFetchPage s m.pages page) (sym (space-ticked k v there ∙ space-kept m k v keeps)) f)
+pub kept-after : (m k : PrivateMachine) (v : ℕ) (kept : KeptPages) → v < length k.vcpus → Keeps m v k → AreKept (space_of (vcpu m v)) m.pages kept → AreKept (space_of (vcpu (on_vcpu k v ticking) v)) k.pages kept
+kept-after m k v kept there keeps f =
+    subst (λ (n : ℕ). AreKept (space_of (vcpu (on_vcpu k v ticking) v)) n kept) (sym keeps.pages)
+    (subst (λ (s : AddressSpace). AreKept s m.pages kept) (sym (space-ticked k v there ∙ space-kept m k v keeps)) f)
 
 pub quiet-after : QuietPass → (n v : ℕ) (m k : PrivateMachine) → v < length k.vcpus → Keeps m v k → AreQuiet n v m.vcpus m.devices → AreQuiet (n - 1) v (on_vcpu k v ticking).vcpus (on_vcpu k v ticking).devices
 quiet-after pass n v m k there keeps q = pass n v k.vcpus k.devices there (quiet-kept n v m k keeps q)
@@ -110,8 +110,12 @@ pub running-after : (m k : PrivateMachine) (v : ℕ) → v < length k.vcpus → 
 running-after m k v there keeps goes_on = ap (λ (c : Vcpu). c.halted) (get_or-set_same k.vcpus v (ticking (vcpu k v)) no_vcpu there) ∙ keeps.halted ∙ goes_on
 
 -- none are quiet, and no page is known
-pub none-known : (m : PrivateMachine) (v : ℕ) → IsWindow m v (record { quiet = 0; fetched = None })
-none-known m v = record { quiet = record { interrupts = λ k lt. absurd (omega arith); input = λ first some. absurd (omega arith) }; running = λ some. absurd (omega arith); fetched = tt }
+pub none-known : (m : PrivateMachine) (v : ℕ) → IsWindow m v (record { quiet = 0; pages = record { fetched = None; loaded = None; stored = None } })
+none-known m v = record {
+  quiet = record { interrupts = λ k lt. absurd (omega arith); input = λ first some. absurd (omega arith) };
+  running = λ some. absurd (omega arith);
+  kept = record { fetched = tt; loaded = tt; stored = tt };
+}
 
 -- the line of the input changes nothing of the space
 pub space-joined : (m : PrivateMachine) (v : ℕ) → space_of (vcpu (joined m v) v) ≡ space_of (vcpu m v)
@@ -128,11 +132,11 @@ space-joined m v = by (v == 0) refl
 pub pages-joined : (m : PrivateMachine) (v : ℕ) → (joined m v).pages ≡ m.pages
 pages-joined m v = elim (v == 0) as (λ b. (if b then input_joined m else m).pages ≡ m.pages) [ true ↦ refl | false ↦ refl ]
 
-pub window-joined : (m : PrivateMachine) (v : ℕ) (page : Option FetchPage) → IsFetchPage (space_of (vcpu m v)) m.pages page → IsWindow (joined m v) v (record { quiet = 0; fetched = page })
-window-joined m v page f = record {
+pub window-joined : (m : PrivateMachine) (v : ℕ) (kept : KeptPages) → AreKept (space_of (vcpu m v)) m.pages kept → IsWindow (joined m v) v (record { quiet = 0; pages = kept })
+window-joined m v kept f = record {
   quiet = (none-known (joined m v) v).quiet;
   running = (none-known (joined m v) v).running;
-  fetched = subst (λ (n : ℕ). IsFetchPage (space_of (vcpu (joined m v) v)) n page) (sym (pages-joined m v)) (subst (λ (s : AddressSpace). IsFetchPage s m.pages page) (sym (space-joined m v)) f);
+  kept = subst (λ (n : ℕ). AreKept (space_of (vcpu (joined m v) v)) n kept) (sym (pages-joined m v)) (subst (λ (s : AddressSpace). AreKept s m.pages kept) (sym (space-joined m v)) f);
 }
 
 -- one event more

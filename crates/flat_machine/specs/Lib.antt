@@ -2,3 +2,4 @@ pub mod FlatView
 pub mod Attempts
 pub mod Windows
 pub mod Stretches
+pub mod Parts

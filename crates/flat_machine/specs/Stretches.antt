@@ -1,6 +1,5 @@
--- The machine after a stretch of plain instructions.
+-- A page of memory, and what an instruction asks that ends a stretch.
 use Rattle.std.specs.Prelude.{◌≡◌, ℕ, ◌+◌, ◌%◌, ◌<◌, Bool, true, false, List, IfSome, Ok}
-use Rattle.base_words.specs.declared.regs.Regs.{Regs}
 use Rattle.base_words.specs.declared.effect.Request.{Request}
 use Rattle.base_words.specs.declared.effect.Request.TheVariants as asks
 use Rattle.base_words.specs.Instruction.{effect}
@@ -9,18 +8,12 @@ use Rattle.mips_alu.specs.Execution.{Executes}
 use Rattle.page_ops.specs.declared.stretch.Stop.{Stop}
 use Rattle.private_machine.specs.OwnStep.{fetched}
 use Rattle.base_words.specs.Memory.{word_at}
-use Rattle.private_machine.specs.Vcpu.{with_registers}
-use Rattle.private_machine.specs.Ticking.{ticking_often}
-use Rattle.private_machine.specs.PrivateMachine.{PrivateMachine, vcpu, on_vcpu}
-use Rattle.flat_machine.specs.declared.window.FetchPage.{FetchPage}
+use Rattle.private_machine.specs.PrivateMachine.{PrivateMachine, vcpu}
+use Rattle.flat_machine.specs.declared.window.KeptPage.{KeptPage}
 
 -- these bytes are a page of memory, word for word
-abbrev pub ShowsPage : PrivateMachine → FetchPage → List ℕ → Type 0
+abbrev pub ShowsPage : PrivateMachine → KeptPage → List ℕ → Type 0
 ShowsPage m page bytes = (offset : ℕ) → offset < 4096 → offset % 4 ≡ 0 → word_at bytes offset ≡ word_at m.memory (page.start + offset)
-
--- other registers, and so many ticks
-abbrev pub after : PrivateMachine → ℕ → ℕ → Regs → PrivateMachine
-after m v n s = on_vcpu m v (λ c. ticking_often n (with_registers s c))
 
 -- an instruction asks for a load or a store
 abbrev pub is_of_memory : Request → Bool

@@ -1,12 +1,12 @@
 //! Loads and stores, wherever their addresses lead.
-ghost use Rattle.std.specs.Prelude.{◌≡◌, ◌*◌, ◌%◌, ◌^◌, ◌<◌, length, true, false, Ok};
+ghost use Rattle.std.specs.Prelude.{◌≡◌, ◌*◌, ◌%◌, ◌^◌, ◌<◌, length, true, Ok};
 ghost use Rattle.base_words.specs.declared.effect.Request.TheVariants as asks;
 ghost use Rattle.base_words.specs.declared.place.Place.TheVariants.{Memory};
 ghost use Rattle.base_words.specs.Instruction.{advanced};
 ghost use Rattle.base_words.specs.Merging.{load_unit as load_unit_of, store_unit as store_unit_of};
 ghost use Rattle.private_machine.specs.PrivateMachine.{vcpu as vcpu_at};
 ghost use Rattle.private_machine.specs.Links.{line_of as line_of_offset};
-ghost use Rattle.private_machine.specs.Access.{loaded, stored, linked_load, conditional_store};
+ghost use Rattle.private_machine.specs.Access.{loaded, stored, conditional_store};
 ghost use Rattle.flat_machine.specs.FlatView.{machine_of, IsSound};
 ghost use Rattle.flat_machine.specs.Attempts.{Attempts, requested};
 ghost use Rattle.flat_machine.specs.Windows.{Keeps};
@@ -19,7 +19,7 @@ use mips_alu::{load_unit, loaded_value, read, store_unit, stored_word};
 
 /// The line of 32 bytes in which an offset of memory lies.
 #[inline]
-fn line_of(offset: u64) -> u32
+pub fn line_of(offset: u64) -> u32
     requires { offset < 2 ^ 36 }
     ensures { result ≡ line_of_offset offset }
 {
@@ -42,33 +42,6 @@ impl Machine {
         let old = read(&self.vcpu(vcpu).registers, target);
         let value = loaded_value(kind, word, old, (offset % 4) as u32);
         self.put(vcpu, target, value);
-    }
-
-    /// A load, where its address leads to memory. Whether it does: if not nothing changes.
-    #[inline(always)]
-    pub fn load_memory(
-        &mut self,
-        vcpu: VcpuId,
-        kind: LoadKind,
-        address: u32,
-        target: Register,
-    ) -> bool
-        requires sound { IsSound self.old }
-        requires there { vcpu.0 < length (machine_of self.old).vcpus }
-        ensures sound { IsSound self.new }
-        ensures ready { self.new.ready ≡ self.old.ready }
-        ensures made { result ≡ true → requested (machine_of self.old) vcpu.0 (asks.Load kind address target) ≡ Ok (machine_of self.new) }
-        ensures same { result ≡ false → machine_of self.new ≡ machine_of self.old }
-        ensures keeps { Keeps (machine_of self.old) vcpu.0 (machine_of self.new) }
-    {
-        let place = self
-            .vcpu(vcpu)
-            .place(self.pages, load_unit(kind), Use::Load, address);
-        if let Ok(Place::Memory(offset)) = place {
-            self.load_word(vcpu, kind, offset, target);
-            return true;
-        }
-        false
     }
 
     /// A load, and what it changed.
@@ -121,27 +94,6 @@ impl Machine {
         let word = stored_word(kind, self.word_around(offset), value, (offset % 4) as u32);
         self.write(vcpu, offset, line_of(offset), word);
         self.pass(vcpu);
-    }
-
-    /// A store, where its address leads to memory. Whether it does: if not nothing changes.
-    #[inline(always)]
-    pub fn store_memory(&mut self, vcpu: VcpuId, kind: StoreKind, address: u32, value: u32) -> bool
-        requires sound { IsSound self.old }
-        requires there { vcpu.0 < length (machine_of self.old).vcpus }
-        ensures sound { IsSound self.new }
-        ensures ready { self.new.ready ≡ self.old.ready }
-        ensures made { result ≡ true → requested (machine_of self.old) vcpu.0 (asks.Store kind address value) ≡ Ok (machine_of self.new) }
-        ensures same { result ≡ false → machine_of self.new ≡ machine_of self.old }
-        ensures keeps { Keeps (machine_of self.old) vcpu.0 (machine_of self.new) }
-    {
-        let place = self
-            .vcpu(vcpu)
-            .place(self.pages, store_unit(kind), Use::Store, address);
-        if let Ok(Place::Memory(offset)) = place {
-            self.store_word(vcpu, kind, offset, value);
-            return true;
-        }
-        false
     }
 
     /// A store, and what it changed.

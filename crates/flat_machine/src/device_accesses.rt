@@ -1,5 +1,5 @@
 //! Loads and stores of the device page.
-ghost use Rattle.std.specs.Prelude.{◌≡◌, ◌<◌, ◌≤◌, [], length, true, false, Some};
+ghost use Rattle.std.specs.Prelude.{◌≡◌, ◌<◌, ◌≤◌, length, true, false, Some};
 ghost use Rattle.std.specs.Vec.{vec_capacity};
 ghost use Rattle.base_words.specs.Instruction.{advanced};
 ghost use Rattle.private_machine.specs.PrivateMachine.{vcpu as vcpu_at};

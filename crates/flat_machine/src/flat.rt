@@ -1,5 +1,5 @@
 //! A guest's private machine, one own event a call.
-ghost use Rattle.std.specs.Prelude.{◌≡◌, ◌*◌, ◌<◌, ◌≤◌, IfOk, OnOk, OnErr, length, map, replicate, option_map};
+ghost use Rattle.std.specs.Prelude.{◌≡◌, ◌*◌, ◌<◌, IfOk, OnOk, OnErr, length, replicate, option_map};
 ghost use Rattle.base_words.specs.declared.ids.Ppn.{Ppn};
 ghost use Rattle.private_machine.specs.PrivateMachine.{vcpu as vcpu_at};
 ghost use Rattle.private_machine.specs.PrivateRun.{booted, own_event, private_run};

@@ -7,6 +7,7 @@ mod device_accesses;
 mod flat;
 mod machine;
 mod memory;
+mod quiet;
 mod running;
 mod stepping;
 mod window;

@@ -1,5 +1,6 @@
 //! Steps, and packets that come in.
-ghost use Rattle.std.specs.Prelude.{◌≡◌, ◌≢◌, ◌<◌, ◌≤◌, IfOk, IfSome, OnOk, OnErr, Ok, length, not, true, false, replicate};
+ghost use Rattle.std.specs.Prelude.{◌≡◌, ◌≢◌, ◌<◌, ◌≤◌, IfOk, OnOk, OnErr, Ok, length, not, true, false, replicate};
+ghost use Rattle.base_words.specs.declared.exception.Use.TheVariants.{Fetch};
 ghost use Rattle.base_words.specs.Instruction.{effect};
 ghost use Rattle.base_words.specs.OpcodeMap.{decoded};
 ghost use Rattle.base_words.specs.Coprocessor.{in_user_mode, interrupts};
@@ -13,18 +14,16 @@ ghost use Rattle.base_words.specs.declared.events.OwnEvent.TheVariants.{Step};
 ghost use Rattle.private_machine.specs.Vcpu.{space_of};
 ghost use Rattle.private_machine.specs.PrivateRun.{private_run};
 ghost use Rattle.flat_machine.specs.Attempts.{Attempts, Begins, requested};
-ghost use Rattle.flat_machine.specs.Stretches.{IsStop};
-ghost use Rattle.flat_machine.specs.Windows.{IsFetchPage, IsWindow, Keeps, MadeSome};
+ghost use Rattle.flat_machine.specs.Windows.{IsKeptPage, IsWindow, Keeps, MadeSome};
 ghost use Rattle.flat_machine.specs.declared.window.Change.TheVariants as changes;
 
 use crate::machine::Machine;
 use crate::memory::fill_page;
-use crate::window::{Change, FetchPage, Window};
+use crate::window::{Change, KeptPage, Window};
 use base_words::{Exception, GuestId, PAGE_SIZE, Place, Regs, Request, Use, VcpuId};
 use guest_devs::{quiet_steps, quiet_steps_pass};
 use mips_alu::execute;
 use mips_isa::decode;
-use page_ops::Stop;
 use private_machine::{redirected, unlink_page};
 use std::alloc::AllocError;
 
@@ -68,12 +67,12 @@ impl Machine {
 
     /// The word at the program counter. The page of the last fetch is looked at first.
     #[inline(always)]
-    fn fetch(&self, vcpu: VcpuId, last: &mut Option<FetchPage>) -> Result<u32, Exception>
+    fn fetch(&self, vcpu: VcpuId, last: &mut Option<KeptPage>) -> Result<u32, Exception>
         requires sound { IsSound self.now }
         requires there { vcpu.0 < length (machine_of self.now).vcpus }
-        requires last { IsFetchPage (space_of (vcpu_at (machine_of self.now) vcpu.0)) self.now.pages last.old }
+        requires last { IsKeptPage Fetch (space_of (vcpu_at (machine_of self.now) vcpu.0)) self.now.pages last.old }
         ensures fetched { result ≡ fetched (machine_of self.now) vcpu.0 }
-        ensures last { IsFetchPage (space_of (vcpu_at (machine_of self.now) vcpu.0)) self.now.pages last.new }
+        ensures last { IsKeptPage Fetch (space_of (vcpu_at (machine_of self.now) vcpu.0)) self.now.pages last.new }
     {
         let vcpu = self.vcpu(vcpu);
         let pc = vcpu.registers.pc;
@@ -85,7 +84,7 @@ impl Machine {
         }
         match vcpu.place(self.pages, 4, Use::Fetch, pc) {
             Ok(Place::Memory(offset)) => {
-                *last = Some(FetchPage {
+                *last = Some(KeptPage {
                     number: pc / PAGE_SIZE,
                     start: offset - u64::from(pc % PAGE_SIZE),
                 });
@@ -171,7 +170,7 @@ impl Machine {
             },
             Request::ReadCp0 { number, target } => {
                 self.read_cp0(vcpu, number, target);
-                Ok(Change::Machine)
+                Ok(Change::Memory)
             }
             Request::WriteCp0 { number, value } => {
                 self.write_cp0(vcpu, number, value);
@@ -186,20 +185,16 @@ impl Machine {
 
     /// The instruction at the program counter, or the exception that it raises; and what it changed.
     #[inline(always)]
-    fn attempt(
-        &mut self,
-        vcpu: VcpuId,
-        fetched: &mut Option<FetchPage>,
-    ) -> Result<Change, Exception>
+    fn attempt(&mut self, vcpu: VcpuId, fetched: &mut Option<KeptPage>) -> Result<Change, Exception>
         requires sound { IsSound self.old }
         requires there { vcpu.0 < length (machine_of self.old).vcpus }
         requires ready { self.old.ready ≡ true }
-        requires fetched { IsFetchPage (space_of (vcpu_at (machine_of self.old) vcpu.0)) self.old.pages fetched.old }
+        requires fetched { IsKeptPage Fetch (space_of (vcpu_at (machine_of self.old) vcpu.0)) self.old.pages fetched.old }
         ensures sound { IsSound self.new }
         ensures attempts { Attempts (attempted (machine_of self.old) vcpu.0) (machine_of self.old) (machine_of self.new) result }
         ensures keeps { result ≡ Ok changes.Memory → Keeps (machine_of self.old) vcpu.0 (machine_of self.new) }
         ensures ready { result ≡ Ok changes.Memory → self.new.ready ≡ true }
-        ensures fetched { IsFetchPage (space_of (vcpu_at (machine_of self.old) vcpu.0)) self.old.pages fetched.new }
+        ensures fetched { IsKeptPage Fetch (space_of (vcpu_at (machine_of self.old) vcpu.0)) self.old.pages fetched.new }
     {
         let word = self.fetch(vcpu, fetched)?;
         let request = self.begin(vcpu, word)?;
@@ -208,17 +203,17 @@ impl Machine {
 
     /// An interrupt, or the instruction at the program counter, and what it changed. Before a quiet step no interrupt is looked for.
     #[inline(always)]
-    fn act(&mut self, vcpu: VcpuId, quiet: bool, fetched: &mut Option<FetchPage>) -> Change
+    fn act(&mut self, vcpu: VcpuId, quiet: bool, fetched: &mut Option<KeptPage>) -> Change
         requires sound { IsSound self.old }
         requires there { vcpu.0 < length (machine_of self.old).vcpus }
         requires ready { self.old.ready ≡ true }
         requires quiet { quiet ≡ true → interrupts (vcpu_at (machine_of self.old) vcpu.0).cp0 ≡ false }
-        requires fetched { IsFetchPage (space_of (vcpu_at (machine_of self.old) vcpu.0)) self.old.pages fetched.old }
+        requires fetched { IsKeptPage Fetch (space_of (vcpu_at (machine_of self.old) vcpu.0)) self.old.pages fetched.old }
         ensures sound { IsSound self.new }
         ensures acted { machine_of self.new ≡ acted (machine_of self.old) vcpu.0 }
         ensures keeps { result ≡ changes.Memory → Keeps (machine_of self.old) vcpu.0 (machine_of self.new) }
         ensures ready { result ≡ changes.Memory → self.new.ready ≡ true }
-        ensures fetched { IsFetchPage (space_of (vcpu_at (machine_of self.old) vcpu.0)) self.old.pages fetched.new }
+        ensures fetched { IsKeptPage Fetch (space_of (vcpu_at (machine_of self.old) vcpu.0)) self.old.pages fetched.new }
     {
         if !quiet && self.vcpu(vcpu).cp0.pending() {
             self.raise(vcpu, Exception::Interrupt);
@@ -315,39 +310,13 @@ impl Machine {
             return Ok(());
         }
         let quiet = self.prepare(vcpu, window);
-        let change = self.act(vcpu, quiet, &mut window.fetched);
+        let change = self.act(vcpu, quiet, &mut window.pages.fetched);
         self.tick(vcpu);
         match change {
             Change::Memory => window.quiet = window.quiet.saturating_sub(1),
             Change::Machine => *window = Window::new(),
         }
         Ok(())
-    }
-
-    /// One step of a virtual processor, at what ended a stretch.
-    #[inline(always)]
-    fn step_at(
-        &mut self,
-        vcpu: VcpuId,
-        stop: Option<Stop>,
-        window: &mut Window,
-    ) -> Result<(), AllocError>
-        requires sound { IsSound self.old }
-        requires there { vcpu.0 < length (machine_of self.old).vcpus }
-        requires window { IsWindow (machine_of self.old) vcpu.0 window.old }
-        requires ready { 0 < window.old.quiet → self.old.ready ≡ true }
-        requires stops { IfSome stop (IsStop (machine_of self.old) vcpu.0) }
-        ensures sound { IsSound self.new }
-        ensures count { length (machine_of self.new).vcpus ≡ length (machine_of self.old).vcpus }
-        ensures stepped { OnOk result (machine_of self.new ≡ own_step (machine_of self.old) vcpu.0) }
-        ensures refused { OnErr result (machine_of self.new ≡ machine_of self.old) }
-        ensures window { IsWindow (machine_of self.new) vcpu.0 window.new }
-        ensures ready { 0 < window.new.quiet → self.new.ready ≡ true }
-    {
-        if self.serve(vcpu, stop, window) {
-            return Ok(());
-        }
-        self.own_step(vcpu, window)
     }
 
     /// So many steps of a virtual processor. Where memory is wanting, some of them were made.
@@ -363,10 +332,9 @@ impl Machine {
         let mut window = Window::new();
         let mut made = 0;
         while made < steps {
-            let stretch = self.run_plain(vcpu, steps - made, &mut window);
-            made += stretch.made;
+            made += self.run_ahead(vcpu, steps - made, &mut window);
             if made < steps {
-                self.step_at(vcpu, stretch.stop, &mut window)?;
+                self.own_step(vcpu, &mut window)?;
                 made += 1;
             }
         }

@@ -1,30 +1,42 @@
 //! What a run of steps of one virtual processor goes by.
 ghost use Rattle.std.specs.Prelude.{◌≡◌, None};
 
-/// The page of memory from which all fetches from one virtual page come.
+/// The page of memory to which all accesses of one kind to one virtual page lead.
 #[derive(Clone, Copy, Debug, PartialEq, Eq)]
-pub struct FetchPage {
+pub struct KeptPage {
     /// The virtual page's number.
     pub number: u32,
     /// The offset of the page in memory.
     pub start: u64,
 }
 
-/// For how many steps neither an interrupt nor input comes, and the page of the last fetch.
+/// The pages of the last fetch, the last load and the last store.
+#[derive(Clone, Copy, Debug, PartialEq, Eq)]
+pub struct KeptPages {
+    pub fetched: Option<KeptPage>,
+    pub loaded: Option<KeptPage>,
+    pub stored: Option<KeptPage>,
+}
+
+/// For how many steps neither an interrupt nor input comes, and the pages of the last accesses.
 #[derive(Clone, Copy, Debug, PartialEq, Eq)]
 pub struct Window {
     pub quiet: u64,
-    pub fetched: Option<FetchPage>,
+    pub pages: KeptPages,
 }
 
 impl Window {
     /// Nothing is known.
     pub fn new() -> Self
-        ensures { result ≡ record { quiet = 0; fetched = None } }
+        ensures { result ≡ record { quiet = 0; pages = record { fetched = None; loaded = None; stored = None } } }
     {
         Window {
             quiet: 0,
-            fetched: None,
+            pages: KeptPages {
+                fetched: None,
+                loaded: None,
+                stored: None,
+            },
         }
     }
 }

@@ -44,3 +44,4 @@ pub mod PostingProofs
 pub mod OfferProofs
 pub mod QuietLemmas
 pub mod WindowProofs
+pub mod RunSteps

@@ -9,7 +9,8 @@ use Rattle.private_machine.specs.declared.vcpu.Vcpu.{Vcpu}
 use Rattle.private_machine.specs.Vcpu.{no_vcpu, ticking}
 use Rattle.private_machine.specs.Reaching.{Sight}
 use Rattle.private_machine.specs.DevicePage.{DevicePage}
-use Rattle.hw_cpu.specs.FetchPages.{IsFetchPage}
+use Rattle.base_words.specs.declared.exception.Use.TheVariants.{Fetch as fetches}
+use Rattle.hw_cpu.specs.KeptPages.{IsKeptPage}
 use Rattle.isolation_law.specs.GuestState.{processor, block_at}
 use Rattle.guest_course.specs.declared.course.Course.{Course}
 use Rattle.guest_course.specs.CourseView.{state_of}
@@ -69,7 +70,7 @@ window-same c x p v window reach space w =
     record {
       user = w.user ∙ ap in_user_mode (sym space.status);
       asid = w.asid ∙ ap (λ (hi : EntryHi). hi.asid) (sym space.hi);
-      fetched = subst (λ (s : Sight). IsFetchPage s window.fetched) (sym same) w.fetched;
+      fetched = subst (λ (s : Sight). IsKeptPage fetches s window.fetched) (sym same) w.fetched;
     }
 
 pub window-made : (c d x : Course) (p v : ℕ) (access : Access) → Made c d p v access → Noted d x → (window : Window) → IsWindowOn c p v window → IsWindowOn x p v window

@@ -28,3 +28,4 @@ pub mod FailCalls
 pub mod Errands
 pub mod Executed
 pub mod Windows
+pub mod Runs

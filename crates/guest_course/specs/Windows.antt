@@ -4,7 +4,8 @@ use Rattle.base_words.specs.Halves.{Half}
 use Rattle.base_words.specs.Coprocessor.{in_user_mode}
 use Rattle.private_machine.specs.declared.vcpu.Vcpu.{Vcpu}
 use Rattle.private_machine.specs.Vcpu.{no_vcpu}
-use Rattle.hw_cpu.specs.FetchPages.{IsFetchPage}
+use Rattle.base_words.specs.declared.exception.Use.TheVariants.{Fetch as fetches}
+use Rattle.hw_cpu.specs.KeptPages.{IsKeptPage}
 use Rattle.isolation_law.specs.GuestState.{processor}
 use Rattle.guest_course.specs.declared.course.Course.{Course}
 use Rattle.guest_course.specs.declared.window.Window.{Window}
@@ -16,7 +17,7 @@ use Rattle.guest_course.specs.HardwareView.{sight_at}
 pub record IsWindow (lost : ℕ → Bool) (c : Vcpu) (tlb : List Half) (window : Window) : Type 0 where
   pub user : window.user ≡ in_user_mode c.cp0.status
   pub asid : window.asid ≡ c.cp0.entry_hi.asid
-  pub fetched : IsFetchPage (sight_at lost c false tlb) window.fetched
+  pub fetched : IsKeptPage fetches (sight_at lost c false tlb) window.fetched
 
 -- of one that is loaded on a processor
 abbrev pub IsWindowOn : Course → ℕ → ℕ → Window → Type 0

@@ -78,6 +78,16 @@ impl Course {
             if quiet == 0 {
                 quiet = quiet_steps(&self.vcpus, &self.devs, vcpu);
             }
+            let ahead = self.run_ahead(
+                processor,
+                vcpu,
+                paged,
+                quiet,
+                limit - made - 1,
+                &mut window,
+            );
+            made += ahead;
+            quiet -= ahead;
             let last = self.step_noted(processor, vcpu, paged, quiet > 0, &mut window);
             quiet = quiet.saturating_sub(1);
             let HwStep::Direct(access) = last else {

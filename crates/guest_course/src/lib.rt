@@ -1,6 +1,7 @@
 //! A guest whose pages lie on frames: what is kept of it, and its steps through the TLBs of processors.
 #![tactic(auto)]
 
+mod ahead;
 mod booting;
 mod bursting;
 mod bus;

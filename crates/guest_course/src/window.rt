@@ -2,7 +2,7 @@
 ghost use Rattle.std.specs.Prelude.{◌≡◌, None};
 ghost use Rattle.base_words.specs.Coprocessor.{in_user_mode};
 
-use hw_cpu::FetchPage;
+use hw_cpu::KeptPage;
 use private_machine::Vcpu;
 
 /// The mode and the address space of the virtual processor that steps, and what the fetches of the last page reached.
@@ -10,7 +10,7 @@ use private_machine::Vcpu;
 pub struct Window {
     pub user: bool,
     pub asid: u8,
-    pub fetched: Option<FetchPage>,
+    pub fetched: Option<KeptPage>,
 }
 
 impl Window {

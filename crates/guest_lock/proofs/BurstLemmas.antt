@@ -170,7 +170,7 @@ loaded-shown g guest token number in_step tells there =
 
 pub record Goes (start : Token) (g steps : ℕ) (b : Burst) (token : Token) (guest : Monitored) : Type 0 where
   pub told : Bursts start g b token
-  pub turns : b.turns ≤ 64
+  pub turns : b.turns ≤ 256
   pub fewer : b.steps ≤ b.turns
   pub few : b.steps ≤ steps
   pub in_step : AreInStep token guest
@@ -181,7 +181,7 @@ goes-as start g steps b other token same guest like is_b is_token is_guest goes 
     (subst (λ (t : Token). Goes start g steps other t guest) (sym is_token) (subst (λ (m : Monitored). Goes start g steps other same m) (sym is_guest) goes))
 
 -- steps that the processor makes by itself, as many as are left
-pub goes-ahead : (start mid new : Token) (g steps most : ℕ) (b next : Burst) (guest after : Monitored) → Goes start g steps b mid guest → GoesOnTo steps b → most ≡ min (steps - b.steps) (64 - b.turns)
+pub goes-ahead : (start mid new : Token) (g steps most : ℕ) (b next : Burst) (guest after : Monitored) → Goes start g steps b mid guest → GoesOnTo steps b → most ≡ min (steps - b.steps) (256 - b.turns)
     → next.steps ≤ most → next.turns ≡ next.steps → Bursts mid g next new → AreInStep new after → Goes start g steps (joined b next) new after
 goes-ahead start mid new g steps most b next guest after goes on is_most few same more in_step =
     let turns = goes.turns in

@@ -38,8 +38,8 @@ goes_on stop.Memory = stop.Memory
 abbrev pub resumed : Burst → Burst
 resumed b = record b { stop = goes_on b.stop }
 
--- a burst for so many steps, of 64 turns at most, goes on
+-- a burst for so many steps, of 256 turns at most, goes on
 pub record GoesOnTo (steps : ℕ) (b : Burst) : Type 0 where
   pub paused : b.stop ≡ stop.Paused
   pub fewer : b.steps < steps
-  pub left : b.turns < 64
+  pub left : b.turns < 256

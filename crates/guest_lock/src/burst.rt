@@ -8,7 +8,7 @@ use guest_core::Turn;
 use std::alloc::AllocError;
 
 /// A burst has at most so many turns.
-pub const BURST_TURNS: u64 = 64;
+pub const BURST_TURNS: u64 = 256;
 
 /// How a burst came to its end.
 #[derive(Clone, Copy, Debug, PartialEq, Eq)]

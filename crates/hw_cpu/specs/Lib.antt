@@ -1,3 +1,4 @@
-pub mod FetchPages
+pub mod KeptPages
+pub mod Runs
 pub mod Site
 pub mod Steps

@@ -1,6 +1,6 @@
 //! What a processor reaches through its TLB.
-ghost use Rattle.std.specs.Prelude.{◌≡◌, ◌<◌, ◌%◌};
-ghost use Rattle.private_machine.specs.Backing.{Held, word_on, written_on};
+ghost use Rattle.std.specs.Prelude.{◌≡◌, ℕ, ◌<◌, ◌%◌, Bool, length};
+ghost use Rattle.private_machine.specs.Backing.{Held, bytes_through, page_at, word_on, written_on};
 ghost use Rattle.private_machine.specs.DirectAccess.{link_of, linking, others_unlinked};
 ghost use Rattle.private_machine.specs.Serving.{Backs, BacksAlone};
 ghost use Rattle.hw_cpu.specs.Site.{Site, IsHeld};
@@ -32,6 +32,12 @@ pub trait Bus {
         requires aligned { offset % 4 ≡ 0 }
         ensures { result ≡ word_on (held self.now) page.0 frame.0 offset };
 
+    /// The bytes of a frame of a page.
+    fn bytes(&self, page: Ppn, frame: FrameNo) -> &[u8]
+        requires { Backs (held self.now) page.0 frame.0 }
+        ensures bytes { result.now ≡ bytes_through (page_at (held self.now).pages page.0) frame.0 }
+        ensures whole { length result.now ≡ 4096 };
+
     /// Replaces a word on the frame of a page.
     fn write(&mut self, page: Ppn, frame: FrameNo, offset: u32, word: u32)
         requires backed { BacksAlone (held self.old) page.0 frame.0 }
@@ -56,4 +62,14 @@ pub trait Bus {
         ensures names { names self.new ≡ names self.old }
         ensures site { site self.new ≡ site self.old }
         ensures held { held self.new ≡ others_unlinked (site self.old).stepping line (held self.old) };
+}
+
+/// Which data accesses leave nothing to note.
+pub trait Unnoted {
+    /// Of which pages, on which frames, a load (`false`) or a store (`true`) leaves nothing.
+    ghost unnoted: { Self → ℕ → ℕ → Bool → Bool };
+
+    /// Whether an access leaves nothing.
+    fn is_unnoted(&self, page: Ppn, frame: FrameNo, store: bool) -> bool
+        ensures { result ≡ unnoted self.now page.0 frame.0 store };
 }

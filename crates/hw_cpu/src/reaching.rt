@@ -1,5 +1,6 @@
 //! What an access reaches through the TLB.
-ghost use Rattle.std.specs.Prelude.{◌≡◌, ◌<◌, ◌/◌, ◌%◌, true, false, Ok, Err, IfSome, None, find as find_of};
+ghost use Rattle.std.specs.Prelude.{◌≡◌, ℕ, ◌<◌, ◌/◌, ◌%◌, ◌==◌, Bool, true, false, Ok, Err, IfSome, Some, None, find as find_of};
+ghost use Rattle.base_words.specs.declared.exception.Use.TheVariants.{Fetch as fetches};
 ghost use Rattle.base_words.specs.Halves.{is_of};
 ghost use Rattle.base_words.specs.Place.{is_store as is_store_of, segment};
 ghost use Rattle.hw_tlb.specs.Tlb.{halves};
@@ -7,9 +8,9 @@ ghost use Rattle.hw_tlb.specs.Lookup.{looked_up};
 ghost use Rattle.private_machine.specs.Serving.{Backs, BacksAlone, AllServe};
 ghost use Rattle.private_machine.specs.Reaching.{Sight, reached, through_half, fetch_at};
 ghost use Rattle.hw_cpu.specs.Steps.{sight_of, place_of, want_of, wanted_at, as_wanted, ReachesNone, is_within};
-ghost use Rattle.hw_cpu.specs.FetchPages.{IsFetchPage};
+ghost use Rattle.hw_cpu.specs.KeptPages.{IsKeptPage, IsQuietPage};
 
-use crate::Bus;
+use crate::{Bus, Unnoted};
 use base_words::{FrameNo, Ppn, Use};
 use hw_tlb::{HwAnswer, HwTlb};
 
@@ -28,9 +29,9 @@ pub struct Wanted {
     pub address: u32,
 }
 
-/// What all fetches from one virtual page reach.
+/// What all accesses of one kind to one virtual page reach.
 #[derive(Clone, Copy, Debug, PartialEq, Eq)]
-pub struct FetchPage {
+pub struct KeptPage {
     /// The virtual page's number.
     pub number: u32,
     pub at: Reached,
@@ -187,15 +188,17 @@ pub fn fetch<B: Bus>(
     mode: Mode,
     tlb: &HwTlb,
     bus: &B,
-    last: &mut Option<FetchPage>,
+    last: &mut Option<KeptPage>,
     pc: u32,
 ) -> Option<Reached>
     requires serves { AllServe (B.held bus.now) (halves tlb.now) }
-    requires last { IsFetchPage (sight_of mode.user mode.asid false (halves tlb.now) (B.site bus.now)) last.old }
+    requires last { IsKeptPage fetches (sight_of mode.user mode.asid false (halves tlb.now) (B.site bus.now)) last.old }
     ensures found { IfSome result (λ at. reached (sight_of mode.user mode.asid false (halves tlb.now) (B.site bus.now)) (fetch_at pc) ≡ Ok (place_of at)) }
     ensures none { result ≡ None → ReachesNone (reached (sight_of mode.user mode.asid false (halves tlb.now) (B.site bus.now)) (fetch_at pc)) }
     ensures backed { IfSome result (λ at. Backs (B.held bus.now) at.page.0 at.frame.0) }
-    ensures last { IsFetchPage (sight_of mode.user mode.asid false (halves tlb.now) (B.site bus.now)) last.new }
+    ensures last { IsKeptPage fetches (sight_of mode.user mode.asid false (halves tlb.now) (B.site bus.now)) last.new }
+    ensures kept { IfSome result (λ at. last.new ≡ Some (record { number = pc / 4096; at = at })) }
+    ensures aligned { IfSome result (λ _. pc % 4 ≡ 0) }
 {
     if let Some(page) = *last
         && page.number == pc / PAGE
@@ -204,8 +207,89 @@ pub fn fetch<B: Bus>(
         return Some(page.at);
     }
     let at = reach(mode, tlb, bus, fetch_of(pc))?;
-    *last = Some(FetchPage {
+    *last = Some(KeptPage {
         number: pc / PAGE,
+        at,
+    });
+    Some(at)
+}
+
+/// Whether an address is a multiple of what its access needs.
+#[inline(always)]
+fn is_multiple(address: u32, unit: u32) -> bool
+    requires { 0 < unit }
+    ensures { result ≡ (address % unit == 0) }
+{
+    match unit {
+        1 => true,
+        2 => address % 2 == 0,
+        4 => address % 4 == 0,
+        _ => address % unit == 0,
+    }
+}
+
+/// What an access reaches that the page that is kept doesn't have, by the TLB, where it leaves nothing to note.
+#[inline(always)]
+fn reach_far<B: Bus, U: Unnoted>(
+    mode: Mode,
+    tlb: &HwTlb,
+    bus: &B,
+    unnoted: &U,
+    purpose: Use,
+    address: u32,
+) -> Option<Reached>
+    requires serves { AllServe (B.held bus.now) (halves tlb.now) }
+    ensures found { IfSome result (λ at. (unit : ℕ) → address % unit ≡ 0 → reached (sight_of mode.user mode.asid false (halves tlb.now) (B.site bus.now)) (wanted_at purpose unit address) ≡ Ok (place_of at)) }
+    ensures quiet { IfSome result (λ at. U.unnoted unnoted.now at.page.0 at.frame.0 (is_store_of purpose) ≡ true) }
+{
+    if !is_in_range(mode.user, address) {
+        return None;
+    }
+    let HwAnswer::Hit(frame, page) = answer_anew(mode, tlb, purpose, address) else {
+        return None;
+    };
+    if bus.is_dead(frame) || !unnoted.is_unnoted(page, frame, is_store(purpose)) {
+        return None;
+    }
+    Some(Reached { page, frame })
+}
+
+/// What an access reaches by the page that is kept, or by the TLB, whose page is kept then; where it leaves nothing to note.
+#[inline(always)]
+pub(crate) fn reach_quietly<B: Bus, U: Unnoted>(
+    mode: Mode,
+    tlb: &HwTlb,
+    bus: &B,
+    unnoted: &U,
+    kept: &mut Option<KeptPage>,
+    wanted: Wanted,
+) -> Option<Reached>
+    requires serves { AllServe (B.held bus.now) (halves tlb.now) }
+    requires some { 0 < wanted.unit }
+    requires kept { IsQuietPage (U.unnoted unnoted.now) wanted.purpose (sight_of mode.user mode.asid false (halves tlb.now) (B.site bus.now)) kept.old }
+    ensures found { IfSome result (λ at. reached (sight_of mode.user mode.asid false (halves tlb.now) (B.site bus.now)) (as_wanted wanted) ≡ Ok (place_of at)) }
+    ensures aligned { IfSome result (λ _. wanted.address % wanted.unit ≡ 0) }
+    ensures backed { IfSome result (λ at. Backs (B.held bus.now) at.page.0 at.frame.0) }
+    ensures alone { IfSome result (λ at. is_store_of wanted.purpose ≡ true → BacksAlone (B.held bus.now) at.page.0 at.frame.0) }
+    ensures quiet { IfSome result (λ at. U.unnoted unnoted.now at.page.0 at.frame.0 (is_store_of wanted.purpose) ≡ true) }
+    ensures kept { IsQuietPage (U.unnoted unnoted.now) wanted.purpose (sight_of mode.user mode.asid false (halves tlb.now) (B.site bus.now)) kept.new }
+{
+    let Wanted {
+        purpose,
+        unit,
+        address,
+    } = wanted;
+    if !is_multiple(address, unit) {
+        return None;
+    }
+    if let Some(page) = *kept
+        && page.number == address / PAGE
+    {
+        return Some(page.at);
+    }
+    let at = reach_far(mode, tlb, bus, unnoted, purpose, address)?;
+    *kept = Some(KeptPage {
+        number: address / PAGE,
         at,
     });
     Some(at)

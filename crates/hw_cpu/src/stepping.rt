@@ -1,5 +1,6 @@
 //! One step of a processor. What takes the bus is inlined: a bus whose address a call takes stands in memory, and is put there in each step.
 ghost use Rattle.std.specs.Prelude.{◌≡◌, ◌≢◌, ◌<◌, ◌%◌, ◌&&◌, ℕ, true, false, not, is_some, Option, Some, None, IfSome, if◌then◌else◌, option_map};
+ghost use Rattle.base_words.specs.declared.exception.Use.TheVariants.{Fetch as fetches};
 ghost use Rattle.base_words.specs.declared.trap.HwStep.TheVariants.{Direct};
 ghost use Rattle.base_words.specs.Instruction.{advanced, effect};
 ghost use Rattle.base_words.specs.OpcodeMap.{decoded};
@@ -15,11 +16,11 @@ ghost use Rattle.private_machine.specs.HardwareStep.{accesses, fetch_trap, data_
 ghost use Rattle.private_machine.specs.DirectAccess.{outcome_of, hardware_outcome, accessed_through, data_told, store_told, load_told};
 ghost use Rattle.private_machine.specs.Serving.{AllServe, Backs, BacksAlone};
 ghost use Rattle.hw_cpu.specs.Steps.{sight_of, with_page, place_of, as_wanted, left_by, ReachesNone, Causes, Does};
-ghost use Rattle.hw_cpu.specs.FetchPages.{IsFetchPage};
+ghost use Rattle.hw_cpu.specs.KeptPages.{IsKeptPage};
 
 use crate::Bus;
 use crate::accesses::{load, load_linked, store, store_conditional, word_at};
-use crate::reaching::{FetchPage, Lack, Mode, Reached, Wanted, denial, fetch, fetch_of, reach};
+use crate::reaching::{KeptPage, Lack, Mode, Reached, Wanted, denial, fetch, fetch_of, reach};
 use base_words::{
     Access, Cp0Op, DataAccess, Exception, HwStep, Register, Regs, Request, TrapCause, Use,
 };
@@ -323,15 +324,15 @@ pub fn step<B: Bus>(
     line: bool,
     tlb: &HwTlb,
     bus: &mut B,
-    last: &mut Option<FetchPage>,
+    last: &mut Option<KeptPage>,
 ) -> HwStep
     requires paged { paged ≡ is_some block.old }
     requires serves { AllServe (B.held bus.old) (halves tlb.now) }
-    requires last { IsFetchPage (sight_of user asid false (halves tlb.now) (B.site bus.old)) last.old }
+    requires last { IsKeptPage fetches (sight_of user asid false (halves tlb.now) (B.site bus.old)) last.old }
     ensures names { B.names bus.new ≡ B.names bus.old }
     ensures site { B.site bus.new ≡ B.site bus.old }
     ensures does { Does (hardware_outcome (with_page block.old (sight_of user asid line (halves tlb.now) (B.site bus.old))) (B.site bus.old).stepping (B.held bus.old) regs.old) (left_by regs.old block.old (B.held bus.old)) (left_by regs.new block.new (B.held bus.new)) result }
-    ensures last { IsFetchPage (sight_of user asid false (halves tlb.now) (B.site bus.old)) last.new }
+    ensures last { IsKeptPage fetches (sight_of user asid false (halves tlb.now) (B.site bus.old)) last.new }
 {
     if line {
         return HwStep::Trap(TrapCause::Line);

@@ -13,7 +13,7 @@ use Rattle.page_ops.specs.declared.op.Op.{Op}
 use Rattle.page_ops.specs.Leading.{Leads}
 use Rattle.page_ops.specs.Ops.{instr_of, Computes, AsksFor, Runs}
 use Rattle.page_ops.specs.declared.leading.Lead.{Lead}
-use Rattle.page_ops.specs.declared.leading.Lead.TheVariants.{ToSlot, PastSlot}
+use Rattle.page_ops.specs.declared.leading.Lead.TheVariants.{ToSlot, PastSlot, Asks}
 use Rattle.page_ops.specs.Pages.{IsInPage, IsAt, IsPlain, Goes, StopsAt, word_in, effect_in}
 
 -- the address of an offset in a page
@@ -99,6 +99,12 @@ stops-there bytes number first at word op regs slot asks i is stands told = reco
   word = sym (at-word bytes number first at word regs slot i is);
   runs = asks-there bytes number first at word op regs slot i is stands asks told;
 }
+
+-- so does an access, which leaves the registers
+pub stops-asking : (bytes : List ℕ) (number first at word : ℕ) (op : Op) (old new : Regs) (slot : Option ℕ) (request : Request) → IsAt number first at → word ≡ word_at bytes at → instr_of op ≡ decoded word → Leads op old new (sum first at) (Asks request)
+    → StopsAt bytes number (record new { pc = sum first at; slot = slot }) (record { word = word; asks = Some request })
+stops-asking bytes number first at word op old new slot request i is stands leads =
+    stops-there bytes number first at word op new slot (Some request) i is stands (subst (λ (r : Regs). AsksFor op r (Some request)) (sym leads.0) leads.1)
 
 -- what computes has computed, and what doesn't has left the registers
 pub has-computed : (op : Op) (old new : Regs) (b : Bool) → b ≡ true → Computes op old new b → Computes op old new true

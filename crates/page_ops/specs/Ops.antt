@@ -146,9 +146,12 @@ Puts old number (outs.Value value) new done = Sets old number value new × (new.
 Puts old number outs.Overflow new done = (new ≡ old) × (done ≡ false)
 
 -- an instruction does all by itself, wherever the program counter stands, which it leaves; or nothing is done
+abbrev pub Does : Instr → Regs → Regs → Bool → Type 0
+Does instr old new true = ((pc : ℕ) (slot : Option ℕ) → effect instr (record old { pc = pc; slot = slot }) ≡ done (record new { pc = pc; slot = slot }) asks.Nothing) × (new.pc ≡ old.pc) × (new.slot ≡ old.slot)
+Does instr old new false = new ≡ old
+
 abbrev pub Computes : Op → Regs → Regs → Bool → Type 0
-Computes op old new true = ((pc : ℕ) (slot : Option ℕ) → effect (instr_of op) (record old { pc = pc; slot = slot }) ≡ done (record new { pc = pc; slot = slot }) asks.Nothing) × (new.pc ≡ old.pc) × (new.slot ≡ old.slot)
-Computes op old new false = new ≡ old
+Computes op old new done = Does (instr_of op) old new done
 
 -- what an instruction asks of memory, wherever the program counter stands
 abbrev pub AsksFor : Op → Regs → Option Request → Type 0

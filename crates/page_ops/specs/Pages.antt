@@ -1,7 +1,8 @@
 -- Instructions of one page, one after the other, as long as each does all by itself.
-use Rattle.std.specs.Prelude.{◌≡◌, ◌<◌, ◌≤◌, ℕ, ◌+◌, ◌*◌, ◌/◌, ◌%◌, ◌^◌, zero, suc, List, Result, Ok}
+use Rattle.std.specs.Prelude.{◌≡◌, ◌<◌, ◌≤◌, ℕ, ◌+◌, ◌*◌, ◌/◌, ◌%◌, ◌^◌, zero, suc, Bool, true, false, List, Result, Ok}
 use Rattle.base_words.specs.declared.regs.Regs.{Regs}
 use Rattle.base_words.specs.declared.exception.Exception.{Exception}
+use Rattle.base_words.specs.declared.effect.Request.{Request}
 use Rattle.base_words.specs.declared.effect.Request.TheVariants as asks
 use Rattle.base_words.specs.Memory.{word_at}
 use Rattle.base_words.specs.OpcodeMap.{decoded}
@@ -44,3 +45,14 @@ pub record IsAt (number first at : ℕ) : Type 0 where
   pub fits : first + 4096 ≤ 2 ^ 32
   pub within : at < 4096
   pub aligned : at % 4 ≡ 0
+
+-- an instruction asks nothing of coprocessor 0
+abbrev pub leaves_cp0 : Request → Bool
+leaves_cp0 asks.Nothing = true
+leaves_cp0 (asks.Load kind address target) = true
+leaves_cp0 (asks.Store kind address value) = true
+leaves_cp0 (asks.LoadLinked address target) = true
+leaves_cp0 (asks.StoreConditional address value target) = true
+leaves_cp0 (asks.ReadCp0 number target) = false
+leaves_cp0 (asks.WriteCp0 number value) = false
+leaves_cp0 (asks.System op) = false

@@ -6,7 +6,7 @@ ghost use Rattle.page_ops.specs.Ops.{HasTarget};
 
 use crate::op::Op;
 use crate::registers::{get, set, sign_extend};
-use base_words::{Cond, JumpIndex, Register, Regs};
+use base_words::{Cond, JumpIndex, Register, Regs, Request};
 use mips_alu::holds;
 
 /// Where an instruction leads.
@@ -16,7 +16,9 @@ pub enum Lead {
     ToSlot(u32),
     /// It's a likely branch that isn't taken: its delay slot is passed over.
     PastSlot,
-    /// It is no branch and no jump, and nothing is done.
+    /// It asks this of memory.
+    Asks(Request),
+    /// It is none of these, and nothing is done.
     Nowhere,
 }
 
@@ -72,10 +74,11 @@ fn link(regs: &mut Regs, number: Register, pc: u32)
     set(regs, number, pc.wrapping_add(8));
 }
 
-/// A branch at this address, which isn't in a delay slot.
+/// What a branch, a jump or an access at this address does, which isn't in a delay slot; what it links is in its register then.
 #[inline(always)]
-fn branch(op: &Op, regs: &mut Regs, pc: u32) -> Lead
+pub fn follow(op: &Op, regs: &mut Regs, pc: u32) -> Lead
     requires zero { slice_index regs.old.general 0 ≡ 0 }
+    requires target { HasTarget op.now }
     ensures leads { Leads op.now regs.old regs.new pc result }
     ensures zero { slice_index regs.new.general 0 ≡ 0 }
 {
@@ -111,19 +114,6 @@ fn branch(op: &Op, regs: &mut Regs, pc: u32) -> Lead
             link(regs, Register::new(31), pc);
             branched(pc, taken, offset)
         }
-        _ => Lead::Nowhere,
-    }
-}
-
-/// A jump at this address, which isn't in a delay slot.
-#[inline(always)]
-fn jump(op: &Op, regs: &mut Regs, pc: u32) -> Lead
-    requires zero { slice_index regs.old.general 0 ≡ 0 }
-    requires target { HasTarget op.now }
-    ensures leads { Leads op.now regs.old regs.new pc result }
-    ensures zero { slice_index regs.new.general 0 ≡ 0 }
-{
-    match *op {
         Op::Jump { index } => Lead::ToSlot(jump_target(pc, index)),
         Op::JumpAndLink { index } => {
             link(regs, Register::new(31), pc);
@@ -135,20 +125,26 @@ fn jump(op: &Op, regs: &mut Regs, pc: u32) -> Lead
             link(regs, rd, pc);
             Lead::ToSlot(target)
         }
+        Op::Load {
+            kind,
+            base,
+            rt,
+            offset,
+        } => Lead::Asks(Request::Load {
+            kind,
+            address: get(regs, base).wrapping_add(sign_extend(offset)),
+            target: rt,
+        }),
+        Op::Store {
+            kind,
+            base,
+            rt,
+            offset,
+        } => Lead::Asks(Request::Store {
+            kind,
+            address: get(regs, base).wrapping_add(sign_extend(offset)),
+            value: get(regs, rt),
+        }),
         _ => Lead::Nowhere,
-    }
-}
-
-/// Where a branch or a jump at this address leads, which isn't in a delay slot; what it links is in its register then.
-#[inline(always)]
-pub fn follow(op: &Op, regs: &mut Regs, pc: u32) -> Lead
-    requires zero { slice_index regs.old.general 0 ≡ 0 }
-    requires target { HasTarget op.now }
-    ensures leads { Leads op.now regs.old regs.new pc result }
-    ensures zero { slice_index regs.new.general 0 ≡ 0 }
-{
-    match branch(op, regs, pc) {
-        Lead::Nowhere => jump(op, regs, pc),
-        led => led,
     }
 }

@@ -3,6 +3,7 @@
 
 mod computing;
 mod flattening;
+mod laws;
 mod leading;
 mod meeting;
 mod memo;
@@ -11,6 +12,7 @@ mod registers;
 mod running;
 mod stretch;
 
+pub use laws::memory_words_are_unprivileged;
 pub use memo::{Memo, Met};
 pub use op::Op;
 pub use running::straight;

@@ -105,6 +105,8 @@ pub fn straight(regs: &mut Regs, bytes: &[u8], places: &mut [Met; 1024], most: u
     ensures few { result.made ≤ most }
     ensures goes { Goes bytes.now (regs.old.pc / 4096) result.made regs.old regs.new }
     ensures stops { IfSome result.stop (StopsAt bytes.now (regs.old.pc / 4096) regs.new) }
+    ensures stops_before { IfSome result.stop (λ _. result.made < most) }
+    ensures goes_on { regs.old.pc % 4 ≡ 0 → 0 < most → IfNone result.stop (0 < result.made) }
     ensures zero { slice_index regs.new.general 0 ≡ 0 }
 {
     let first = page_start(regs.pc);
@@ -125,12 +127,21 @@ pub fn straight(regs: &mut Regs, bytes: &[u8], places: &mut [Met; 1024], most: u
                 made += 1;
                 continue;
             }
-            Lead::Nowhere => {
+            Lead::Asks(request) => {
                 regs.pc = first.wrapping_add(at);
-                let asks = asked(op, regs);
                 return Stretch {
                     made,
-                    stop: Some(Stop { word, asks }),
+                    stop: Some(Stop {
+                        word,
+                        asks: Some(request),
+                    }),
+                };
+            }
+            Lead::Nowhere => {
+                regs.pc = first.wrapping_add(at);
+                return Stretch {
+                    made,
+                    stop: Some(Stop { word, asks: None }),
                 };
             }
         };

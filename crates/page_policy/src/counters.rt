@@ -46,10 +46,20 @@ impl Counters {
     }
 
     /// Whether a page is one of those that are counted.
+    #[inline]
     pub fn has(&self, page: Ppn) -> bool
         ensures { IsTrue result ↔ (page.0 < length self.now) }
     {
         (page.0 as usize) < self.written.len()
+    }
+
+    /// Whether a page was written since its counters last started anew.
+    #[inline]
+    pub fn is_written(&self, page: Ppn) -> bool
+        requires { page.0 < length self.now }
+        ensures { result ≡ (misses_of page.0 self.now).written }
+    {
+        self.written[page.0 as usize]
     }
 
     /// An access of a page by a node: whether it was a miss, and whether it was a store.

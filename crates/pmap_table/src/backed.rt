@@ -13,7 +13,7 @@ use crate::OpenMove;
 use crate::master::Master;
 use crate::open_move::PendingMove;
 use crate::replicas::Replicas;
-use base_words::{CellSet, Frame, FrameNo, NodeId, ProcId, ProcSet, Shape};
+use base_words::{CellSet, Frame, FrameNo, NodeId, Page, ProcId, ProcSet, Shape};
 use std::marker::Model;
 
 /// A page: its master, the processors whose TLBs may name it, its open move and its replicas.
@@ -63,6 +63,19 @@ impl BackedPage {
             self.master.page().word_at(offset)
         } else {
             self.replicas.page_on(frame).word_at(offset)
+        }
+    }
+
+    /// The bytes of one of the frames of the page.
+    #[inline]
+    pub(crate) fn page_on(&self, frame: FrameNo) -> &Page
+        requires backed { has_frame (copies self.now) frame.0 ≡ true }
+        ensures { result.now ≡ bytes_through self.now frame.0 }
+    {
+        if self.master.number().0 == frame.0 {
+            self.master.page()
+        } else {
+            self.replicas.page_on(frame)
         }
     }
 

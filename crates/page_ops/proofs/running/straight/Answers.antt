@@ -3,8 +3,8 @@ use Rattle.std.proofs.Common.{◌≡◌, ℕ, ◌+◌, ◌/◌, Some, None, sym,
 use Rattle.base_words.specs.declared.regs.Regs.{Regs}
 use Rattle.base_words.specs.Fields.{sum}
 use Rattle.page_ops.specs.Pages.{Goes, IsAt, IsPlain}
-use Rattle.page_ops.specs.declared.leading.Lead.TheVariants.{ToSlot, PastSlot}
-use Rattle.page_ops.proofs.StretchLemmas.{plain-computed, plain-past, branch-more, goes-more, stops-there, has-computed, has-stayed, told-lead}
+use Rattle.page_ops.specs.declared.leading.Lead.TheVariants.{ToSlot, PastSlot, Asks}
+use Rattle.page_ops.proofs.StretchLemmas.{plain-computed, plain-past, branch-more, goes-more, stops-there, stops-asking, has-computed, has-stayed, told-lead}
 use Rattle.page_ops.proofs.running.straight.Goals as goal
 
 pub loop-made-preserved-then-compute : goal.loop-made-preserved-then-compute
@@ -23,6 +23,7 @@ loop-made-preserved-then-compute c =
       goes = goes-more bytes n l.made c.args.regs.now (record l.regs { pc = sum f l.at; slot = None }) (record new { pc = sum f (l.at + 4); slot = None }) l.invariant.goes (plain-computed bytes n f l.at c.read_word-word.result op l.regs new i c.read_word-word.ensures c.op_at-op.ensures.stands does);
       zero = c.compute.ensures.zero;
       slot = does.2 ∙ l.invariant.slot;
+      first = λ none. absurd (omega (arith, none));
     }
 
 pub loop-made-preserved-in-PastSlot : goal.loop-made-preserved-in-PastSlot
@@ -45,7 +46,18 @@ loop-made-preserved-in-PastSlot c =
           (subst (λ (r : Regs). Goes bytes n l.made r0 (record r { pc = sum f l.at; slot = None })) (sym stays) l.invariant.goes) (plain-past bytes n f l.at c.read_word-word.result op new led i c.read_word-word.ensures c.op_at-op.ensures.stands leads);
       zero = c.follow.ensures.zero;
       slot = leads.1 ∙ ap (λ (r : Regs). r.slot) stays ∙ l.invariant.slot;
+      first = λ none. absurd (omega (arith, none));
     }
+
+pub returns-in-Asks-clause-stops : goal.returns-in-Asks-clause-stops
+returns-in-Asks-clause-stops c =
+    let n = c.args.regs.now.pc / 4096 in
+    let f = c.page_start-first.result in
+    let l = c.loop-made in
+    let op = c.op_at-op.result.now in
+    let i : IsAt n f l.at = record { starts = c.page_start-first.ensures.start; fits = c.page_start-first.ensures.fits; within = c.if-at-lt-PAGE.true; aligned = c.if-at-eq0.true } in
+    let leads = told-lead op c.compute.new.regs c.follow.new.regs (sum f l.at) c.follow.result (Asks c.in-Asks.request) c.in-Asks.is c.follow.ensures.leads in
+    stops-asking c.args.bytes.now n f l.at c.read_word-word.result op c.compute.new.regs c.follow.new.regs c.follow.new.regs.slot c.in-Asks.request i c.read_word-word.ensures c.op_at-op.ensures.stands leads
 
 pub returns-in-Nowhere-clause-stops : goal.returns-in-Nowhere-clause-stops
 returns-in-Nowhere-clause-stops c =
@@ -53,7 +65,7 @@ returns-in-Nowhere-clause-stops c =
     let f = c.page_start-first.result in
     let l = c.loop-made in
     let i : IsAt n f l.at = record { starts = c.page_start-first.ensures.start; fits = c.page_start-first.ensures.fits; within = c.if-at-lt-PAGE.true; aligned = c.if-at-eq0.true } in
-    stops-there c.args.bytes.now n f l.at c.read_word-word.result c.op_at-op.result.now (record c.follow.new.regs { pc = sum f l.at }) c.follow.new.regs.slot c.asked-asks.result i c.read_word-word.ensures c.op_at-op.ensures.stands c.asked-asks.ensures.asks
+    stops-there c.args.bytes.now n f l.at c.read_word-word.result c.op_at-op.result.now (record c.follow.new.regs { pc = sum f l.at }) c.follow.new.regs.slot None i c.read_word-word.ensures c.op_at-op.ensures.stands tt
 
 pub returns-then-made-most-clause-goes : goal.returns-then-made-most-clause-goes
 returns-then-made-most-clause-goes c =
@@ -107,4 +119,5 @@ loop-made-preserved c =
           (branch-more bytes n f l.at c.read_word-word.result target l.made op r0 l.regs new led i c.read_word-word.ensures c.op_at-op.ensures.stands stays l.invariant.goes leads) slot);
       zero = c.delayed.ensures.zero;
       slot = c.in_default.ensures.slot ∙ leads.1 ∙ ap (λ (r : Regs). r.slot) stays ∙ l.invariant.slot;
+      first = λ none. absurd (omega (arith, none));
     }

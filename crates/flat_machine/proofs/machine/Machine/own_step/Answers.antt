@@ -5,9 +5,10 @@ use Rattle.private_machine.specs.Vcpu.{space_of}
 use Rattle.private_machine.specs.PrivateMachine.{PrivateMachine, vcpu}
 use Rattle.guest_devs.specs.Quiet.{AreQuiet}
 use Rattle.flat_machine.specs.FlatView.{machine_of}
-use Rattle.flat_machine.specs.Windows.{IsFetchPage}
+use Rattle.flat_machine.specs.declared.window.KeptPages.{KeptPages}
+use Rattle.flat_machine.specs.Windows.{AreKept}
 use Rattle.flat_machine.proofs.CountLemmas.{acted-count}
-use Rattle.flat_machine.proofs.WindowLemmas.{quiet-after, running-after, fetched-after}
+use Rattle.flat_machine.proofs.WindowLemmas.{quiet-after, running-after, kept-after}
 use Rattle.flat_machine.proofs.machine.Machine.own_step.Goals as goal
 
 pub tick-requires-clause-there : goal.tick-requires-clause-there
@@ -27,13 +28,14 @@ returns-in-Memory-clause-window c =
     let there : v < length k.vcpus = omega (arith, acted ∙ c.prepare-quiet.ensures.count ∙ ap count c.in_ok-starts.ensures.same, c.requires.there) in
     let keeps = c.act-change.ensures.keeps c.in-Memory.is in
     let quiet = quiet-after c.quiet_steps_pass.ensures c.prepare-quiet.new.window.quiet v m k there keeps before.quiet in
-    let fetched = fetched-after m k v c.act-change.new.fetched there keeps c.act-change.ensures.fetched in
+    let pages : KeptPages = record c.prepare-quiet.new.window.pages { fetched = c.act-change.new.fetched } in
+    let kept = kept-after m k v pages there keeps (record { fetched = c.act-change.ensures.fetched; loaded = before.kept.loaded; stored = before.kept.stored }) in
     let less = c.saturating_sub-window.ensures in
     record {
       quiet = subst (λ (n : ℕ). AreQuiet n v (machine_of c.tick.new.self).vcpus (machine_of c.tick.new.self).devices) (sym c.saturating_sub-window.ensures)
           (subst (λ (x : PrivateMachine). AreQuiet (c.prepare-quiet.new.window.quiet - 1) v x.vcpus x.devices) (sym c.tick.ensures.ticked) quiet);
       running = λ some. ap (λ (x : PrivateMachine). (vcpu x v).halted) c.tick.ensures.ticked ∙ running-after m k v there keeps (before.running (omega (arith, less, some)));
-      fetched = subst (λ (x : PrivateMachine). IsFetchPage (space_of (vcpu x v)) x.pages c.act-change.new.fetched) (sym c.tick.ensures.ticked) fetched;
+      kept = subst (λ (x : PrivateMachine). AreKept (space_of (vcpu x v)) x.pages pages) (sym c.tick.ensures.ticked) kept;
     }
 
 pub returns-in-Machine-clause-count : goal.returns-in-Machine-clause-count

@@ -1,4 +1,4 @@
--- A stretch is so many steps more, and a step is one.
+-- Steps ahead are so many more, and a step is one.
 use Rattle.std.proofs.Common.{◌≡◌, ◌+◌, ℕ, Result, Ok, Err, OnErr, replicate, ap, sym, ◌∙◌, arith}
 use Rattle.base_words.specs.declared.ids.VcpuId.{VcpuId}
 use Rattle.base_words.specs.declared.events.OwnEvent.TheVariants.{Step}
@@ -21,7 +21,7 @@ on-err (Err x) P p = p
 pub loop-made-preserved : goal.loop-made-preserved
 loop-made-preserved c =
     let before = c.loop-made.invariant in
-    let goes = c.run_plain-stretch.ensures in
+    let goes = c.run_ahead-made.ensures in
     let few = goes.few in
     let was = before.few in
     record {
@@ -30,28 +30,28 @@ loop-made-preserved c =
       window = goes.window;
       ready = goes.ready;
       few = omega (arith, few, was);
-      made = more (machine_of c.args.self.now) (machine_of c.loop-made.self) (machine_of c.run_plain-stretch.new.self) c.loop-made.made c.run_plain-stretch.result.made c.args.vcpu before.made goes.made;
+      made = more (machine_of c.args.self.now) (machine_of c.loop-made.self) (machine_of c.run_ahead-made.new.self) c.loop-made.made c.run_ahead-made.result c.args.vcpu before.made goes.made;
     }
 
 pub loop-made-preserved-then-made-steps : goal.loop-made-preserved-then-made-steps
 loop-made-preserved-then-made-steps c =
     let before = c.loop-made.invariant in
-    let goes = c.run_plain-stretch.ensures in
-    let made = c.loop-made.made + c.run_plain-stretch.result.made in
+    let goes = c.run_ahead-made.ensures in
+    let made = c.loop-made.made + c.run_ahead-made.result in
     let less = c.if-made-steps.true in
-    let so = more (machine_of c.args.self.now) (machine_of c.loop-made.self) (machine_of c.run_plain-stretch.new.self) c.loop-made.made c.run_plain-stretch.result.made c.args.vcpu before.made goes.made in
+    let so = more (machine_of c.args.self.now) (machine_of c.loop-made.self) (machine_of c.run_ahead-made.new.self) c.loop-made.made c.run_ahead-made.result c.args.vcpu before.made goes.made in
     record {
-      sound = c.step_at.ensures.sound;
-      count = c.step_at.ensures.count ∙ goes.count ∙ before.count;
-      window = c.step_at.ensures.window;
-      ready = c.step_at.ensures.ready;
+      sound = c.own_step.ensures.sound;
+      count = c.own_step.ensures.count ∙ goes.count ∙ before.count;
+      window = c.own_step.ensures.window;
+      ready = c.own_step.ensures.ready;
       few = omega (arith, less);
-      made = c.in_ok-step_at.ensures.stepped ∙ ap (λ (w : PrivateMachine). own_step w c.args.vcpu.0) so ∙ sym (run-again (machine_of c.args.self.now) made (Step c.args.vcpu));
+      made = c.in_ok-own_step.ensures.stepped ∙ ap (λ (w : PrivateMachine). own_step w c.args.vcpu.0) so ∙ sym (run-again (machine_of c.args.self.now) made (Step c.args.vcpu));
     }
 
-pub returns-in_err-step_at-clause-wants : goal.returns-in_err-step_at-clause-wants
-returns-in_err-step_at-clause-wants c =
+pub returns-in_err-own_step-clause-wants : goal.returns-in_err-own_step-clause-wants
+returns-in_err-own_step-clause-wants c =
     let before = c.loop-made.invariant in
-    let goes = c.run_plain-stretch.ensures in
-    let so = more (machine_of c.args.self.now) (machine_of c.loop-made.self) (machine_of c.run_plain-stretch.new.self) c.loop-made.made c.run_plain-stretch.result.made c.args.vcpu before.made goes.made in
-    on-err c.from_residual.result _ (c.loop-made.made + c.run_plain-stretch.result.made, c.if-made-steps.true, c.in_err-step_at.ensures.refused ∙ so)
+    let goes = c.run_ahead-made.ensures in
+    let so = more (machine_of c.args.self.now) (machine_of c.loop-made.self) (machine_of c.run_ahead-made.new.self) c.loop-made.made c.run_ahead-made.result c.args.vcpu before.made goes.made in
+    on-err c.from_residual.result _ (c.loop-made.made + c.run_ahead-made.result, c.if-made-steps.true, c.in_err-own_step.ensures.refused ∙ so)

@@ -1,5 +1,5 @@
 -- A step that the processor makes by itself is one more, and leaves what the next one asks for.
-use Rattle.std.proofs.Common.{rules, ◌≡◌, ◌≢◌, ◌<◌, ℕ, suc, ◌+◌, Option, Some, None, true, is_some, List, length, ◌⊎◌, inl, inr, map, get_or, refl, sym, ap, ◌∙◌, subst, arith}
+use Rattle.std.proofs.Common.{rules, ◌≡◌, ◌≢◌, ◌<◌, ◌≤◌, ℕ, zero, suc, ◌+◌, ◌-◌, Option, Some, None, true, is_some, List, length, ◌⊎◌, inl, inr, map, get_or, refl, sym, ap, ◌∙◌, subst, arith}
 use Rattle.std.specs.Global.{Vec}
 use Rattle.isolation_law.specs.Parts.{Wish as Wanting}
 use Rattle.isolation_law.specs.GuestState.{GuestState, processor, due_on}
@@ -18,7 +18,7 @@ use Rattle.guest_course.specs.Failures.{lost_in}
 use Rattle.guest_course.specs.declared.window.Window.{Window}
 use Rattle.guest_course.specs.Windows.{IsWindow, IsWindowOn}
 use Rattle.guest_course.specs.Packets.{SamePackets}
-use Rattle.guest_course.specs.StepCalls.{StepsMany}
+use Rattle.guest_course.specs.StepCalls.{StepsMany, StepsTo, TrapsFor, TrapsUnchanged}
 use Rattle.guest_course.proofs.PlaceLemmas.{loaded-below}
 use Rattle.guest_course.proofs.ReadyLemmas.{due-at, not-some}
 use Rattle.guest_course.proofs.course.Course.burst.Goals as goal
@@ -35,6 +35,15 @@ packets-then c d e first next = record {
   received = next.received ∙ first.received;
   discarded = next.discarded ∙ first.discarded;
   hand = next.hand ∙ first.hand;
+}
+
+-- a run leaves them
+packets-ahead : (c d : Course) → d ≡ record c { vcpus = d.vcpus; pmap = d.pmap; memo = d.memo } → SamePackets c d
+packets-ahead c d same = record {
+  sent = ap (λ (x : Course). x.devs.state.page.sent) same;
+  received = ap (λ (x : Course). x.received) same;
+  discarded = ap (λ (x : Course). x.discarded) same;
+  hand = ap (λ (x : Course). x.hand) same;
 }
 
 -- one more
@@ -66,6 +75,20 @@ is-there (Some wish) e = λ none. cc
 due-some : (x : Option Wish) → is_some x ≡ true → due_of x ≢ None
 due-some None e = cc
 due-some (Some wish) e = λ none. cc
+
+-- so many steps, and so many more
+steps-then : (s t u : GuestState) (p v n m : ℕ) → StepsMany n s p v t → StepsMany m t p v u → StepsMany (n + m) s p v u
+steps-then s t u p v n zero first next = subst (λ (k : ℕ). StepsMany k s p v u) (let same : n ≡ n + zero = omega arith in same) (subst (StepsMany n s p v) (sym next) first)
+steps-then s t u p v n (suc m) first next = subst (λ (k : ℕ). StepsMany k s p v u) (let more : suc (n + m) ≡ n + suc m = omega arith in more) (next.0, steps-then s t next.0 p v n m first next.1, next.2)
+
+-- more than one step is asked for where no choice is due
+more-due : (s : GuestState) (p limit most made : ℕ) → Limited s p limit most → 0 < limit - made - 1 → due_on s p ≡ None
+more-due s p limit most made (inl (all, none)) some = none
+more-due s p limit most made (inr (one, is-due)) some = absurd (omega (arith, one, some))
+
+-- a run leaves what is due
+still-limited : (c d : Course) (p limit most : ℕ) → d ≡ record c { vcpus = d.vcpus; pmap = d.pmap; memo = d.memo } → Limited (state_of c) p limit most → Limited (state_of d) p limit most
+still-limited c d p limit most same l = subst (λ (x : Course). Limited (state_of x) p limit most) (sym same) l
 
 new-window : (c : goal.After-new-window) → IsWindowOn c.args.self.now c.args.processor.0 c.args.vcpu.0 c.new-window.result
 new-window c =
@@ -106,56 +129,100 @@ loop-made-init c =
 pub loop-made-preserved : goal.loop-made-preserved
 loop-made-preserved c =
     let before = c.loop-made.invariant in
+    let ahead = c.run_ahead-ahead.ensures in
+    let mid : Course = c.run_ahead-ahead.new.self in
+    let made = c.loop-made.made + c.run_ahead-ahead.result in
     let new : Course = c.step_noted-last.new.self in
     let done = c.step_noted-last.ensures in
     let p = c.args.processor.0 in
     let v = c.args.vcpu.0 in
+    let most = ahead.few in
+    let few : c.run_ahead-ahead.result ≤ c.if-is_due.limit - c.loop-made.made - 1 = most in
+    let was = before.fewer in
+    let fewer : made < c.if-is_due.limit = omega (arith, was, few) in
+    let limited = still-limited c.loop-made.self mid p c.if-is_due.limit c.args.most ahead.same before.limit in
     let none = not-some (due_on (state_of new) p) (sym c.is_chosen.ensures ∙ c.if-is_chosen.false) in
-    let limit = whole (state_of c.loop-made.self) p c.if-is_due.limit c.args.most c.loop-made.made before.limit before.fewer c.if-made-limit.false in
-    let here = c.loop-made.self in
-    let quiet : AreQuiet c.if-quiet-eq0.quiet v here.vcpus.items here.devs.state.page = elim c.if-quiet-eq0.branch [
-      | then-quiet-eq0 w ↦ subst (λ (n : ℕ). AreQuiet n v here.vcpus.items here.devs.state.page) (sym w.quiet-is) (subst (λ (l : List Vcpu). AreQuiet w.quiet_steps-quiet.result v l here.devs.state.page) w.deref.ensures.value w.quiet_steps-quiet.ensures)
-      | else-quiet-eq0 w ↦ subst (λ (n : ℕ). AreQuiet n v here.vcpus.items here.devs.state.page) (sym w.quiet-is) before.quiet
-    ] in
+    let limit = whole (state_of mid) p c.if-is_due.limit c.args.most made limited fewer c.if-made-limit.false in
+    let many = steps-then (state_of c.args.self.now) (state_of c.loop-made.self) (state_of mid) p v c.loop-made.made c.run_ahead-ahead.result before.steps ahead.steps in
     record {
       sound = done.sound;
-      paged = before.paged ∙ ap (λ (a : Around). has_page a.profile) (sym done.around);
+      paged = before.paged ∙ ap (λ (x : Course). has_page x.around.profile) (sym ahead.same) ∙ ap (λ (a : Around). has_page a.profile) (sym done.around);
       may = record {
         goes_on = done.goes_on;
         runs = done.runs;
         may_act = ap (lets_act (state_of new)) none;
       };
-      steps = one-more (state_of c.args.self.now) (state_of new) p v c.loop-made.made (state_of c.loop-made.self, before.steps, c.in-Direct.ensures.executes.row);
-      quiet = subst (λ (n : ℕ). AreQuiet n v new.vcpus.items new.devs.state.page) (sym c.saturating_sub-quiet.ensures) (done.quiet c.if-quiet-eq0.quiet quiet);
+      steps = one-more (state_of c.args.self.now) (state_of new) p v made (state_of mid, many, c.in-Direct.ensures.executes.row);
+      quiet = subst (λ (n : ℕ). AreQuiet n v new.vcpus.items new.devs.state.page) (sym c.saturating_sub-quiet.ensures) (done.quiet (c.if-quiet-eq0.quiet - c.run_ahead-ahead.result) ahead.quiet);
       window = done.window;
-      fewer = omega (arith, c.loop-made-test.true, c.if-made-limit.false);
+      fewer = omega (arith, fewer, c.if-made-limit.false);
       limited = before.limited;
       limit = inl (limit, none);
-      print_room = done.print_room ∙ before.print_room;
-      send_room = done.send_room ∙ before.send_room;
-      room = done.room ∙ before.room;
-      cells = done.cells ∙ before.cells;
-      skips = done.skips ∙ before.skips;
-      packets = packets-then c.args.self.now c.loop-made.self new before.packets done.packets;
+      print_room = done.print_room ∙ ap (λ (x : Course). x.devs.print_room) ahead.same ∙ before.print_room;
+      send_room = done.send_room ∙ ap (λ (x : Course). x.devs.send_room) ahead.same ∙ before.send_room;
+      room = done.room ∙ ahead.room ∙ before.room;
+      cells = done.cells ∙ ap (λ (x : Course). x.sent_from) ahead.same ∙ before.cells;
+      skips = done.skips ∙ ap (λ (x : Course). x.skips) ahead.same ∙ before.skips;
+      packets = packets-then c.args.self.now mid new (packets-then c.args.self.now c.loop-made.self mid before.packets (packets-ahead c.loop-made.self mid ahead.same)) done.packets;
     }
 
 pub returns-then-made-limit-clause-stops : goal.returns-then-made-limit-clause-stops
 returns-then-made-limit-clause-stops c =
+    let mid : Course = c.run_ahead-ahead.new.self in
     let new : Course = c.step_noted-last.new.self in
     let p = c.args.processor.0 in
+    let limited = still-limited c.loop-made.self mid p c.if-is_due.limit c.args.most c.run_ahead-ahead.ensures.same c.loop-made.invariant.limit in
     elim c.then-made-limit.branch [
-      | then-made-limit-via-then-made-limit w ↦ stopped (state_of c.loop-made.self) (state_of new) p c.if-is_due.limit c.args.most c.loop-made.made c.loop-made.invariant.limit c.step_noted-last.ensures.chosen w.if-made-limit.true
+      | then-made-limit-via-then-made-limit w ↦ stopped (state_of mid) (state_of new) p c.if-is_due.limit c.args.most (c.loop-made.made + c.run_ahead-ahead.result) limited c.step_noted-last.ensures.chosen w.if-made-limit.true
       | then-made-limit-via-else-made-limit+then-is_chosen w ↦ inr (is-there (due_on (state_of new) p) (sym w.is_chosen.ensures ∙ w.if-is_chosen.true))
     ]
 
 pub is_chosen-requires : goal.is_chosen-requires
 is_chosen-requires c =
+    let mid : Course = c.run_ahead-ahead.new.self in
     let new : Course = c.step_noted-last.new.self in
     let p = c.args.processor.0 in
     let done = c.step_noted-last.ensures in
     let before = c.loop-made.invariant in
-    let none = none-due (state_of c.loop-made.self) p c.if-is_due.limit c.args.most c.loop-made.made before.limit before.fewer c.if-made-limit.false in
+    let made = c.loop-made.made + c.run_ahead-ahead.result in
+    let most = c.run_ahead-ahead.ensures.few in
+    let few : c.run_ahead-ahead.result ≤ c.if-is_due.limit - c.loop-made.made - 1 = most in
+    let was = before.fewer in
+    let fewer : made < c.if-is_due.limit = omega (arith, was, few) in
+    let limited = still-limited c.loop-made.self mid p c.if-is_due.limit c.args.most c.run_ahead-ahead.ensures.same before.limit in
+    let none = none-due (state_of mid) p c.if-is_due.limit c.args.most made limited fewer c.if-made-limit.false in
     record {
       there = due-there new done.sound p c.args.vcpu.0 done.runs.loaded;
       none = λ untouched. ap (λ (x : Vec (Option Wish)). get_or (map due_of x.items) p None) (done.none c.in-Direct.access c.in-Direct.is untouched) ∙ none;
     }
+
+pub returns-in_default-clause-came : goal.returns-in_default-clause-came
+returns-in_default-clause-came c =
+    let start = state_of c.args.self.now in
+    let mid = state_of c.run_ahead-ahead.new.self in
+    let new = state_of c.step_noted-last.new.self in
+    let p = c.args.processor.0 in
+    let v = c.args.vcpu.0 in
+    let made = c.loop-made.made + c.run_ahead-ahead.result in
+    let many = steps-then start (state_of c.loop-made.self) mid p v c.loop-made.made c.run_ahead-ahead.result c.loop-made.invariant.steps c.run_ahead-ahead.ensures.steps in
+    let trapped : TrapsUnchanged mid p v new c.in_default.field-0 = c.in_default.ensures.executes in
+    subst (StepsTo made start p v new) (sym c.in_default.is)
+    (record { steps = subst (StepsMany made start p v) (sym trapped.same) many; traps = subst (λ (t : GuestState). TrapsFor t p v c.in_default.field-0) (sym trapped.same) trapped.why })
+
+pub returns-then-made-limit-clause-came : goal.returns-then-made-limit-clause-came
+returns-then-made-limit-clause-came c =
+    let start = state_of c.args.self.now in
+    let mid = state_of c.run_ahead-ahead.new.self in
+    let p = c.args.processor.0 in
+    let v = c.args.vcpu.0 in
+    let made = c.loop-made.made + c.run_ahead-ahead.result in
+    record {
+      before = made;
+      count = omega arith;
+      mid = mid;
+      steps = steps-then start (state_of c.loop-made.self) mid p v c.loop-made.made c.run_ahead-ahead.result c.loop-made.invariant.steps c.run_ahead-ahead.ensures.steps;
+      last = c.in-Direct.ensures.executes;
+    }
+
+pub run_ahead-ahead-requires-clause-due : goal.run_ahead-ahead-requires-clause-due
+run_ahead-ahead-requires-clause-due c some = more-due (state_of c.loop-made.self) c.args.processor.0 c.if-is_due.limit c.args.most c.loop-made.made c.loop-made.invariant.limit some
