@@ -1,0 +1,10 @@
+pub mod Logs
+pub mod Rule
+pub mod Ends
+pub mod Shares
+pub mod Sides
+pub mod Owners
+pub mod Finds
+pub mod Deques
+pub mod Gathering
+pub mod Making
