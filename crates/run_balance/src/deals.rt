@@ -1,5 +1,5 @@
 //! The deques of all owners: how they are made, and how they end.
-ghost use Rattle.std.specs.Prelude.{◌≡◌, ◌<◌, ◌≤◌, ℕ, IfOk, List, length, map};
+ghost use Rattle.std.specs.Prelude.{◌≡◌, ◌<◌, ◌≤◌, ℕ, IfOk, List, [], length, map, slice_index_or};
 ghost use Rattle.run_balance.specs.Making.{AreNewOwners};
 ghost use Rattle.run_balance.specs.Owners.{AreDealt, taken_by};
 ghost use Rattle.run_balance.specs.Gathering.{AreAllOf, AreThrough};
@@ -40,8 +40,10 @@ pub struct Taken {
 }
 
 impl Taken {
-    /// What an owner took, in order.
-    pub fn of(&self, owner: ProcId) -> &[u32] {
+    /// What an owner took, in order; nothing where there is no such owner.
+    pub fn of(&self, owner: ProcId) -> &[u32]
+        ensures { result.now ≡ slice_index_or (lists_of self.now) owner.0 [] }
+    {
         match self.owners.as_slice().get(owner.number()) {
             Some(owner) => owner.taken(),
             None => &[],
