@@ -9,8 +9,30 @@ use crate::machine::Machine;
 use crate::quiet::run_at;
 use crate::window::Window;
 use base_words::VcpuId;
+use guest_devs::quiet_steps;
+use std::alloc::AllocError;
 
 impl Machine {
+    /// Where it isn't known whether anything comes, for how many steps nothing does. A virtual processor that has halted makes none.
+    #[inline(always)]
+    pub fn look_ahead(&mut self, vcpu: VcpuId, window: &mut Window) -> Result<(), AllocError>
+        requires sound { IsSound self.old }
+        requires there { vcpu.0 < length (machine_of self.old).vcpus }
+        requires window { IsWindow (machine_of self.old) vcpu.0 window.old }
+        requires ready { 0 < window.old.quiet → self.old.ready ≡ true }
+        ensures sound { IsSound self.new }
+        ensures same { machine_of self.new ≡ machine_of self.old }
+        ensures window { IsWindow (machine_of self.new) vcpu.0 window.new }
+        ensures ready { 0 < window.new.quiet → self.new.ready ≡ true }
+    {
+        if window.quiet > 0 || self.vcpu(vcpu).halted {
+            return Ok(());
+        }
+        self.make_ready()?;
+        window.quiet = quiet_steps(&self.vcpus, &self.devs, vcpu);
+        Ok(())
+    }
+
     /// Steps of a virtual processor, before which nothing comes, as long as each touches nothing but registers and memory: no more than
     /// `most`, and how many.
     #[inline(always)]

@@ -51,7 +51,7 @@ fn asked(regs: &mut Regs, is_open: bool, word: u32) -> Result<Request, Exception
 
 impl Machine {
     /// Makes room for what one step may print and send.
-    fn make_ready(&mut self) -> Result<(), AllocError>
+    pub fn make_ready(&mut self) -> Result<(), AllocError>
         requires sound { IsSound self.old }
         ensures sound { IsSound self.new }
         ensures same { machine_of self.new ≡ machine_of self.old }
@@ -332,6 +332,7 @@ impl Machine {
         let mut window = Window::new();
         let mut made = 0;
         while made < steps {
+            self.look_ahead(vcpu, &mut window)?;
             made += self.run_ahead(vcpu, steps - made, &mut window);
             if made < steps {
                 self.own_step(vcpu, &mut window)?;

@@ -36,3 +36,4 @@ pub mod PacketLemmas
 pub mod DoneLemmas
 pub mod EndLemmas
 pub mod FailLemmas
+pub mod TurnAhead

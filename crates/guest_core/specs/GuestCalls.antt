@@ -8,6 +8,9 @@ use Rattle.base_words.specs.declared.events.Event.TheVariants.{Direct, Refill, E
 use Rattle.base_words.specs.declared.events.End.{End}
 use Rattle.base_words.specs.declared.events.End.TheVariants.{Halted as ByHalt, Budget}
 use Rattle.base_words.specs.declared.trap.Access.{Access}
+use Rattle.base_words.specs.declared.trap.HwStep.{HwStep}
+use Rattle.base_words.specs.declared.trap.HwStep.TheVariants as steps
+use Rattle.base_words.specs.declared.trap.TrapCause.{TrapCause}
 use Rattle.shootdown.specs.declared.notes.Note.{Note}
 use Rattle.shootdown.specs.declared.notes.Note.TheVariants.{Made, Halted, Ended, Dead}
 use Rattle.shootdown.specs.Notes.{Token, sided}
@@ -22,7 +25,7 @@ use Rattle.wire_queue.specs.Packets.{packet_of}
 use Rattle.guest_course.specs.declared.posting.Outgoing.{Outgoing}
 use Rattle.guest_course.specs.EndCalls.{letting_go}
 use Rattle.guest_course.specs.Posting.{IsOther, put_on, sent_handed}
-use Rattle.guest_course.specs.StepCalls.{StepsDirect}
+use Rattle.guest_course.specs.StepCalls.{MayStep, StepsDirect, TrapsFor}
 use Rattle.guest_course.specs.Wanting.{TakesMemory}
 use Rattle.guest_core.specs.GuestView.{Monitored, IsSameGuest, Shared}
 use Rattle.guest_core.specs.Making.{Makes, MakesAlone, Rests}
@@ -31,6 +34,7 @@ use Rattle.guest_core.specs.Sharing.{BeginsForStep, Copies, SendsPlain, UsesFree
 use Rattle.guest_core.specs.Wiring.{SentOn}
 use Rattle.guest_core.specs.declared.answers.Loaded.{Loaded}
 use Rattle.guest_core.specs.declared.answers.Loaded.TheVariants as loaded
+use Rattle.guest_core.specs.declared.answers.Ahead.{Ahead}
 use Rattle.guest_core.specs.declared.answers.Turn.{Turn}
 use Rattle.guest_core.specs.declared.answers.Turn.TheVariants as turn
 use Rattle.isolation_law.specs.Surroundings.{cell_of_processor}
@@ -198,3 +202,41 @@ told_of_turn p v (Ok (turn.Waits q waiting)) = []
 told_of_turn p v (Ok turn.VcpuHalted) = Halted v ∷ []
 told_of_turn p v (Ok (turn.GuestEnded end)) = Ended end ∷ []
 told_of_turn p v (Err e) = []
+
+-- ---- steps ahead, and the turn that comes then
+
+-- nothing was done but that room was made
+pub record MakesRoom (old : Monitored) (new : Monitored) : Type 0 where
+  pub same : IsSameGuest old new
+  pub rests : Rests old new
+  pub notes : new.notes ≡ old.notes
+  pub handed : new.handed ≡ old.handed
+
+-- the turn was made, once there was room for it
+pub record TurnsThen (shared : Shared) (old : Monitored) (token : Token) (v : VcpuId) (result : Result Turn AllocError) (new : Monitored) (token_after : Token) : Type 0 where
+  pub mid : Monitored
+  pub room : MakesRoom old mid
+  pub turns : Turns shared mid (processor_of token) v new result
+  pub leaves : Leaves mid token (told_of_turn (processor_of token) v result) new token_after
+
+-- or none was
+abbrev pub MayTurn : Shared → Monitored → Token → VcpuId → Option (Result Turn AllocError) → Monitored → Token → Type 0
+MayTurn shared old token v None new token_after = MakesRoom old new × (token_after ≡ token)
+MayTurn shared old token v (Some result) new token_after = TurnsThen shared old token v result new token_after
+
+-- so many steps that the processor made by itself, and the turn of the one that trapped, if it was made
+pub record TurnsAhead (shared : Shared) (old : Monitored) (token : Token) (v : VcpuId) (ahead : Ahead) (new : Monitored) (token_after : Token) : Type 0 where
+  pub mid : Monitored
+  pub between : Token
+  pub steps : StepsAhead old token v ahead.steps mid between
+  pub turn : MayTurn shared mid between v ahead.turn new token_after
+
+-- the cause for which a step trapped
+abbrev pub trap_in : HwStep → Option TrapCause
+trap_in (steps.Direct access) = None
+trap_in (steps.Trap cause) = Some cause
+
+-- the virtual processor's step traps on the token's processor, for this cause, and may be made
+pub record TrapsNext (g : Monitored) (token : Token) (v : VcpuId) (cause : TrapCause) : Type 0 where
+  pub traps : TrapsFor g.state token.number v.0 cause
+  pub may : MayStep g.state token.number v.0

@@ -1,5 +1,5 @@
 //! A guest under the monitor, whose journal is a run from its start.
-ghost use Rattle.std.specs.Prelude.{◌≡◌, ◌≢◌, ◌↔◌, ℕ, ◌≤◌, ◌<◌, ◌+◌, [], ◌∷◌, ◌++◌, length, None, Some, All, IfOk, IsTrue, OnOk};
+ghost use Rattle.std.specs.Prelude.{◌≡◌, ◌≢◌, ◌↔◌, ℕ, ◌≤◌, ◌<◌, ◌+◌, [], ◌∷◌, ◌++◌, length, None, Some, All, IfOk, IfSome, IsTrue, OnOk};
 ghost use Rattle.base_words.specs.Limits.{most_cells, most_processors};
 ghost use Rattle.std.specs.Bool.{OnTrue, OnFalse};
 ghost use Rattle.shootdown.specs.declared.view.SidedNote.{SidedNote};
@@ -16,7 +16,7 @@ ghost use Rattle.guest_core.specs.Holding.{HasFrames, HoldsFor};
 ghost use Rattle.guest_core.specs.GuestView.{IsAtStart, IsSameGuest, AreOf, shared_by};
 ghost use Rattle.guest_core.specs.Noting.{IsNoted, shows_loaded};
 ghost use Rattle.guest_core.specs.FailCalls.{FailsCell, told_of_failure};
-ghost use Rattle.guest_core.specs.GuestCalls.{Leaves, LoadsVcpu, told_of_load, MayNote, MayCall, StepsAhead, processor_of, loaded_on, Turns, told_of_turn};
+ghost use Rattle.guest_core.specs.GuestCalls.{Leaves, LoadsVcpu, told_of_load, MayNote, MayCall, TurnsAhead, processor_of, loaded_on, Turns, told_of_turn};
 ghost use Rattle.guest_core.specs.Making.{Makes, MakesAlone, Stays};
 ghost use Rattle.guest_course.specs.Errands.{MustWait};
 ghost use Rattle.guest_core.specs.AskCalls.{IsAsked};
@@ -30,7 +30,7 @@ ghost use Rattle.wire_queue.specs.ListSteps.{HasTaken};
 ghost use Rattle.wire_queue.specs.PassLists.{IsUnused};
 
 use crate::parts::Parts;
-use crate::{Asked, Fate, GuestRecord, Loaded, Packeted, Ready, Resources, Turn};
+use crate::{Ahead, Asked, Fate, GuestRecord, Loaded, Packeted, Ready, Resources, Turn};
 use base_words::{CellId, End, FrameList, InputList, MoveKind, NodeId, Ppn, ProcId, VcpuId};
 use cow_disk::Disk;
 use elf_image::Image;
@@ -207,17 +207,25 @@ impl Guest {
     }
 
     /// Makes steps of the virtual processor that is loaded on the token's processor, at most so many, while each is one that the processor
-    /// makes by itself and nothing else comes first: no end, no page that waits for the processor, no move that is ready, no choice of the
-    /// policy. Answers how many. It takes no memory, and waits for nothing.
-    pub fn steps_ahead(&mut self, token: &mut ProcToken, most: u64) -> u64
+    /// makes by itself and nothing else comes first; and the turn of the first one that traps, once there is room for it.
+    pub fn turns_ahead<R: Wait>(
+        &mut self,
+        rt: &R,
+        alloc: Global,
+        token: &mut ProcToken,
+        resources: &Resources,
+        most: u64,
+    ) -> Ahead
         requires may { MayCall self.old token.old }
         requires room { 2 ≤ self.old.room }
+        requires shared { AreOf (shared_by resources.now) self.old }
         requires loaded { (processor_at self.old.state token.old.number).loaded ≢ None }
         requires acts { MayAct self.old.state token.old.number }
-        ensures few { result ≤ most }
-        ensures ahead { StepsAhead self.old token.old (loaded_on self.old token.old) result self.new token.new }
+        ensures few { result.steps ≤ most }
+        ensures fewer { IfSome result.turn (λ _. result.steps < most) }
+        ensures ahead { TurnsAhead (shared_by resources.now) self.old token.old (loaded_on self.old token.old) result self.new token.new }
     {
-        self.parts.steps_ahead(token, most)
+        self.parts.turns_ahead(rt, alloc, token, resources, most)
     }
 
     /// A move of a page is asked for through the token's processor: by the policy, where just that is due there, and else by the plan. `Busy` exactly where the guest hasn't ended and the page has a move;

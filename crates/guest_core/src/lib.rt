@@ -25,7 +25,7 @@ mod turning;
 mod using;
 mod wiring;
 
-pub use answers::{Asked, Fate, Loaded, Packeted, Ready, Turn};
+pub use answers::{Ahead, Asked, Fate, Loaded, Packeted, Ready, Turn};
 pub use guest::Guest;
 pub use records::{
     Cut, FailureList, FailureRecord, GuestRecord, RecordList, RunRecord, SliceList, SliceRecord,

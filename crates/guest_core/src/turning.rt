@@ -354,7 +354,7 @@ impl Parts {
     /// Serves the trap of a virtual processor that runs.
     #[cold]
     #[inline(never)]
-    fn trapped<R: Wait>(
+    pub(crate) fn trapped<R: Wait>(
         &mut self,
         rt: &R,
         alloc: Global,

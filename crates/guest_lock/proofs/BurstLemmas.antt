@@ -8,17 +8,18 @@ use Rattle.shootdown.specs.declared.notes.Note.{Note}
 use Rattle.shootdown.specs.declared.notes.Note.TheVariants.{Made}
 use Rattle.shootdown.specs.Notes.{Token, with_side}
 use Rattle.isolation_law.specs.GuestState.{processor}
-use Rattle.guest_core.specs.GuestView.{Monitored}
+use Rattle.guest_core.specs.GuestView.{Monitored, Shared}
+use Rattle.guest_core.specs.declared.answers.Ahead.{Ahead}
 use Rattle.guest_core.specs.declared.answers.Turn.{Turn}
 use Rattle.guest_core.specs.declared.answers.Turn.TheVariants as turn
-use Rattle.guest_core.specs.GuestCalls.{processor_of, loaded_on, told_of_turn}
+use Rattle.guest_core.specs.GuestCalls.{MayTurn, TurnsAhead, processor_of, loaded_on, told_of_turn}
 use Rattle.guest_lock.specs.declared.burst.Burst.{Burst}
 use Rattle.guest_lock.specs.declared.burst.Stop.{Stop}
 use Rattle.guest_lock.specs.declared.burst.Stop.TheVariants as stop
 use Rattle.guest_lock.specs.Told.{with_told, shown, vcpu_shown, told_of_stop, AreInStep, AreSteps, Bursts}
-use Rattle.guest_lock.specs.Counted.{counted, none_made, joined, goes_on, resumed, GoesOnTo}
+use Rattle.guest_lock.specs.Counted.{counted, none_made, joined, goes_on, resumed, steps_made, turned, GoesOnTo}
 use Rattle.guest_core.specs.Noting.{loaded_by, shows_loaded}
-use Rattle.guest_lock.proofs.Notes.{append-none, with_told-none, with_told-more, steps-append, steps-loaded, shown-steps, shown-told, loaded_by-append}
+use Rattle.guest_lock.proofs.Notes.{in_step-learns, append-none, with_told-none, with_told-more, steps-append, steps-loaded, shown-steps, shown-told, loaded_by-append}
 
 -- what a burst that goes on was told is its steps
 paused : (old : Token) (g : ℕ) (b : Burst) (new : Token) (bursts : Bursts old g b new) → b.stop ≡ stop.Paused → new ≡ with_told old g bursts.made
@@ -153,7 +154,7 @@ are-steps : (p : ProcId) (v : VcpuId) (n : ℕ) → AreSteps p v n (replicate n 
 are-steps p v zero = tt
 are-steps p v (suc n) = (inl refl, are-steps p v n)
 
-pub Bursts-steps : (old : Token) (g n : ℕ) (new : Token) → new ≡ with_told old g (replicate n (Made (Direct (processor_of old) (vcpu_shown g old)))) → Bursts old g (record { turns = n; steps = n; stop = stop.Paused }) new
+pub Bursts-steps : (old : Token) (g n : ℕ) (new : Token) → new ≡ with_told old g (replicate n (Made (Direct (processor_of old) (vcpu_shown g old)))) → Bursts old g (steps_made n) new
 Bursts-steps old g n new token =
     let made : List Note = replicate n (Made (Direct (processor_of old) (vcpu_shown g old))) in
     record { made = made; steps = are-steps (processor_of old) (vcpu_shown g old) n; token = token ∙ ap (with_told old g) (sym (append-none made)) }
@@ -175,15 +176,10 @@ pub record Goes (start : Token) (g steps : ℕ) (b : Burst) (token : Token) (gue
   pub few : b.steps ≤ steps
   pub in_step : AreInStep token guest
 
-pub goes-as : (start : Token) (g steps : ℕ) (b other : Burst) (token same : Token) (guest like : Monitored) → b ≡ other → token ≡ same → guest ≡ like → Goes start g steps other same like → Goes start g steps b token guest
-goes-as start g steps b other token same guest like is_b is_token is_guest goes =
-    subst (λ (x : Burst). Goes start g steps x token guest) (sym is_b)
-    (subst (λ (t : Token). Goes start g steps other t guest) (sym is_token) (subst (λ (m : Monitored). Goes start g steps other same m) (sym is_guest) goes))
-
 -- steps that the processor makes by itself, as many as are left
 pub goes-ahead : (start mid new : Token) (g steps most : ℕ) (b next : Burst) (guest after : Monitored) → Goes start g steps b mid guest → GoesOnTo steps b → most ≡ min (steps - b.steps) (256 - b.turns)
-    → next.steps ≤ most → next.turns ≡ next.steps → Bursts mid g next new → AreInStep new after → Goes start g steps (joined b next) new after
-goes-ahead start mid new g steps most b next guest after goes on is_most few same more in_step =
+    → next.turns ≤ most → next.steps ≤ next.turns → Bursts mid g next new → AreInStep new after → Goes start g steps (joined b next) new after
+goes-ahead start mid new g steps most b next guest after goes on is_most few fewer-next more in_step =
     let turns = goes.turns in
     let fewer = goes.fewer in
     let left = on.left in
@@ -195,3 +191,43 @@ goes-ahead start mid new g steps most b next guest after goes on is_most few sam
       few = omega arith;
       in_step = in_step;
     }
+
+-- none ahead, and a burst goes on as it did
+pub goes-on-none : (steps : ℕ) (b next : Burst) → GoesOnTo steps b → next ≡ none_made → GoesOnTo steps (joined b next)
+goes-on-none steps b next on none =
+    subst (λ (n : Burst). GoesOnTo steps (joined b n)) (sym none) (let left = on.left in let some = on.fewer in record { paused = refl; fewer = omega (arith, some); left = omega (arith, left) })
+
+-- ---- steps ahead, and the turn that came then
+
+-- as it is told
+turn-then : (old : Token) (g n : ℕ) (v : VcpuId) (shared : Shared) (mid after : Monitored) (between new : Token) (turn : Option (Result Turn AllocError)) → Bursts old g (steps_made n) between → mid.number ≡ g → v ≡ vcpu_shown g old
+    → MayTurn shared mid between v turn after new → Bursts old g (turned (steps_made n) turn) new
+turn-then old g n v shared mid after between new None bursts number is turn = subst (Bursts old g (steps_made n)) (sym turn.1) bursts
+turn-then old g n v shared mid after between new (Some r) bursts number is turn =
+    let here : turn.mid.number ≡ g = turn.room.same.number ∙ number in
+    let vcpu : v ≡ vcpu_shown g between = is ∙ sym (same-vcpu old g (steps_made n) between bursts refl) in
+    Bursts-turn old g (steps_made n) between r new bursts refl
+    (turn.leaves.learns.token_is
+    ∙ ap (λ (k : ℕ). with_told between k (told_of_turn (processor_of between) v r)) here
+    ∙ ap (λ (w : VcpuId). with_told between g (told_of_turn (processor_of between) w r)) vcpu)
+
+pub Bursts-turned : (old : Token) (g : ℕ) (v : VcpuId) (shared : Shared) (guest after : Monitored) (ahead : Ahead) (new : Token) → guest.number ≡ g → v ≡ vcpu_shown g old → TurnsAhead shared guest old v ahead after new → Bursts old g (turned (steps_made ahead.steps) ahead.turn) new
+Bursts-turned old g v shared guest after ahead new number is turns =
+    let learned = turns.steps.learns.token_is in
+    let steps : turns.between ≡ with_told old g (replicate ahead.steps (Made (Direct (processor_of old) (vcpu_shown g old)))) =
+    learned
+    ∙ ap (λ (k : ℕ). with_told old k (replicate ahead.steps (Made (Direct (processor_of old) v)))) number
+    ∙ ap (λ (w : VcpuId). with_told old g (replicate ahead.steps (Made (Direct (processor_of old) w)))) is in
+    turn-then old g ahead.steps v shared turns.mid after turns.between new ahead.turn (Bursts-steps old g ahead.steps turns.between steps) (turns.steps.same.number ∙ number) is turns.turn
+
+-- guest and token are told the same
+in_step-then : (v : VcpuId) (shared : Shared) (mid after : Monitored) (between new : Token) (turn : Option (Result Turn AllocError)) → MayTurn shared mid between v turn after new → AreInStep between mid → AreInStep new after
+in_step-then v shared mid after between new None turn e =
+    subst (λ (t : Token). AreInStep t after) (sym turn.1) (ap (λ (n : ℕ). with_side n between.notes) turn.0.same.number ∙ e ∙ ap (with_side between.number) (sym turn.0.notes))
+in_step-then v shared mid after between new (Some r) turn e =
+    let before : AreInStep between turn.mid = ap (λ (n : ℕ). with_side n between.notes) turn.room.same.number ∙ e ∙ ap (with_side between.number) (sym turn.room.notes) in
+    in_step-learns turn.mid between (told_of_turn (processor_of between) v r) after new turn.leaves.learns turn.leaves.same.number before
+
+pub in_step-turned : (old : Token) (v : VcpuId) (shared : Shared) (guest after : Monitored) (ahead : Ahead) (new : Token) → TurnsAhead shared guest old v ahead after new → AreInStep old guest → AreInStep new after
+in_step-turned old v shared guest after ahead new turns e =
+    in_step-then v shared turns.mid after turns.between new ahead.turn turns.turn (in_step-learns guest old (replicate ahead.steps (Made (Direct (processor_of old) v))) turns.mid turns.between turns.steps.learns turns.steps.same.number e)

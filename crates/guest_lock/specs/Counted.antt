@@ -1,5 +1,5 @@
 -- Turns, counted.
-use Rattle.std.specs.Prelude.{◌≡◌, ℕ, ◌<◌, ◌+◌, ◌-◌, ◌^◌, min, Some, None, Result, Ok, Err}
+use Rattle.std.specs.Prelude.{◌≡◌, ℕ, ◌<◌, ◌+◌, ◌-◌, ◌^◌, min, Option, Some, None, Result, Ok, Err}
 use Rattle.std.specs.declared.alloc.AllocError.{AllocError}
 use Rattle.guest_core.specs.declared.answers.Turn.{Turn}
 use Rattle.guest_core.specs.declared.answers.Turn.TheVariants as turn
@@ -22,6 +22,14 @@ counted b (Ok (turn.Waits q set)) = record b { turns = b.turns + 1; stop = stop.
 counted b (Ok turn.VcpuHalted) = record b { turns = b.turns + 1; stop = stop.VcpuHalted }
 counted b (Ok (turn.GuestEnded end)) = record b { turns = b.turns + 1; stop = stop.GuestEnded end }
 counted b (Err e) = record b { turns = b.turns + 1; stop = stop.Memory }
+
+-- so many steps that the processor made by itself, and the turn that came then, if one did
+abbrev pub steps_made : ℕ → Burst
+steps_made n = record { turns = n; steps = n; stop = stop.Paused }
+
+abbrev pub turned : Burst → Option (Result Turn AllocError) → Burst
+turned b None = b
+turned b (Some turn) = counted b turn
 
 -- a burst and the next one; the count of turns stands still at its type's end
 abbrev pub joined : Burst → Burst → Burst

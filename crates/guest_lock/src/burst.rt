@@ -1,10 +1,10 @@
 //! What a burst of turns did.
-ghost use Rattle.std.specs.Prelude.{◌≡◌, ◌↔◌, ◌+◌, ◌<◌, ◌^◌, IsTrue};
+ghost use Rattle.std.specs.Prelude.{◌≡◌, ◌↔◌, ◌+◌, ◌≤◌, ◌<◌, ◌^◌, IfSome, IsTrue};
 ghost use Rattle.std.specs.declared.alloc.AllocError.{AllocError};
-ghost use Rattle.guest_lock.specs.Counted.{counted, none_made, joined, resumed, GoesOnTo};
+ghost use Rattle.guest_lock.specs.Counted.{counted, none_made, joined, resumed, steps_made, turned, GoesOnTo};
 
 use base_words::{End, Ppn};
-use guest_core::Turn;
+use guest_core::{Ahead, Turn};
 use std::alloc::AllocError;
 
 /// A burst has at most so many turns.
@@ -46,6 +46,23 @@ impl Burst {
             steps: 0,
             stop: Stop::Paused,
         }
+    }
+
+    /// Steps that were made ahead, and the turn that came then.
+    pub(crate) fn of(ahead: Ahead) -> Burst
+        requires steps { ahead.steps ≤ BURST_TURNS }
+        requires fewer { IfSome ahead.turn (λ _. ahead.steps < BURST_TURNS) }
+        ensures { result ≡ turned (steps_made ahead.steps) ahead.turn }
+    {
+        let mut burst = Burst {
+            turns: ahead.steps,
+            steps: ahead.steps,
+            stop: Stop::Paused,
+        };
+        if let Some(turn) = ahead.turn {
+            burst.count(turn);
+        }
+        burst
     }
 
     /// Counts a turn.

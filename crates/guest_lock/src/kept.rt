@@ -12,6 +12,7 @@ ghost use Rattle.isolation_law.specs.Start.{Boot};
 ghost use Rattle.isolation_law.specs.Phases.{MayAct};
 ghost use Rattle.guest_course.specs.SkipView.{wanting};
 ghost use Rattle.guest_core.specs.MoveCalls.{told_of_ask, MayAsk, StillActs};
+ghost use Rattle.guest_lock.specs.Counted.{none_made};
 ghost use Rattle.guest_lock.specs.Fits.{Fits, HasVcpu, MayAskOf};
 ghost use Rattle.guest_lock.specs.Receiving.{HasCalled, HasCalledOften};
 ghost use Rattle.guest_lock.specs.Told.{with_told, shown, vcpu_shown, told_of_loading, AreInStep, Bursts, NamesCell};
@@ -22,7 +23,7 @@ ghost use Rattle.guest_lock.specs.Fates.{IsToldFailing};
 use crate::Starts;
 use crate::burst::{BURST_TURNS, Burst, Stop};
 use base_words::{CellId, MoveKind, NodeId, Ppn, ProcId, VcpuId};
-use guest_core::{Asked, Fate, Guest, Loaded, Packeted, Resources, Turn};
+use guest_core::{Ahead, Asked, Fate, Guest, Loaded, Packeted, Resources, Turn};
 use guest_course::Wish;
 use outside_io::{Gate, GatePoint};
 use shootdown::ProcToken;
@@ -257,6 +258,16 @@ impl<N: Starts, const G: u8> Kept<N, G> {
         }
     }
 
+    /// Notes that something has changed, where the turn that came ahead did.
+    #[inline]
+    fn mark_ahead(&mut self, ahead: &Ahead)
+        ensures { self.new.guest ≡ self.old.guest }
+    {
+        if let Some(turn) = &ahead.turn {
+            self.mark(turn);
+        }
+    }
+
     /// Tells that what the token noted of the guest is what the guest's seat noted of the token's processor.
     #[inline]
     pub(crate) fn agree(&mut self, token: &mut ProcToken)
@@ -298,27 +309,35 @@ impl<N: Starts, const G: u8> Kept<N, G> {
     }
 
     /// Makes steps of what is loaded on the token's processor, at most so many, while each is one that the processor makes by itself and
-    /// nothing else comes first.
-    fn steps_ahead(&mut self, token: &mut ProcToken, most: u64) -> Burst
+    /// nothing else comes first, neither the gate, and the turn of the first one that traps.
+    fn turns_ahead<R: Wait, T: Gate>(
+        &mut self,
+        rt: &R,
+        alloc: Global,
+        token: &mut ProcToken,
+        resources: &Resources,
+        gate: &T,
+        most: u64,
+    ) -> Burst
         requires token { Fits N.starts N.board token.old }
         requires in_step { AreInStep token.old self.old.guest }
         requires loaded { shown G token.old ≢ None }
+        requires shared { shared_by resources.now ≡ N.shared }
+        requires most { most ≤ BURST_TURNS }
         ensures few { result.steps ≤ most }
-        ensures turns { result.turns ≡ result.steps }
-        ensures paused { result.stop ≡ Paused }
+        ensures turns { result.turns ≤ most }
+        ensures fewer { result.steps ≤ result.turns }
+        ensures none { result.turns ≡ 0 → result ≡ none_made }
         ensures told { Bursts token.old G result token.new }
         ensures in_step { AreInStep token.new self.new.guest }
     {
-        if self.guest.make_room().is_err() || !self.is_quiet(token.number()) {
+        if !gate.is_free() || self.guest.make_room().is_err() || !self.is_quiet(token.number()) {
             return Burst::new();
         }
         self.guest.tells_loaded();
-        let steps = self.guest.steps_ahead(token, most);
-        Burst {
-            turns: steps,
-            steps,
-            stop: Stop::Paused,
-        }
+        let ahead = self.guest.turns_ahead(rt, alloc, token, resources, most);
+        self.mark_ahead(&ahead);
+        Burst::of(ahead)
     }
 
     /// Makes turns until one is neither a step nor a refill, there were so many steps, or there were enough turns.
@@ -342,17 +361,17 @@ impl<N: Starts, const G: u8> Kept<N, G> {
         self.agree(token);
         let mut burst = Burst::new();
         while burst.goes_on(steps) {
-            if gate.is_free() {
-                let most = (steps - burst.steps).min(BURST_TURNS - burst.turns);
-                burst = burst.then(self.steps_ahead(token, most));
+            let most = (steps - burst.steps).min(BURST_TURNS - burst.turns);
+            let ahead = self.turns_ahead(rt, alloc, token, resources, gate, most);
+            burst = burst.then(ahead);
+            if ahead.turns > 0 {
+                continue;
             }
-            if burst.goes_on(steps) {
-                let here = GatePoint {
-                    turn: at.turn.saturating_add(burst.turns),
-                    ..at
-                };
-                burst.count(self.turn(rt, alloc, token, resources, gate, here));
-            }
+            let here = GatePoint {
+                turn: at.turn.saturating_add(burst.turns),
+                ..at
+            };
+            burst.count(self.turn(rt, alloc, token, resources, gate, here));
         }
         burst
     }

@@ -1,5 +1,11 @@
+pub mod CountLemmas
 pub mod PlaceLemmas
 pub mod FillLemmas
 pub mod OrderLemmas
 pub mod RoomLemmas
+pub mod ScanLemmas
+pub mod CountedLemmas
+pub mod BucketLemmas
+pub mod EntryLemmas
+pub mod SettleLemmas
 pub mod SoundLemmas

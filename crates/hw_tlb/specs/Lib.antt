@@ -2,4 +2,5 @@ pub mod Tlb
 pub mod Lookup
 pub mod Dropping
 pub mod Filling
+pub mod Counts
 pub mod Rooms

@@ -1,9 +1,11 @@
--- How the processor's TLB keeps its halves: a room for each place, and for some virtual pages a hint where to look first.
+-- How the processor's TLB keeps its halves: a room for each place, counts of the halves, and for some virtual pages a hint where
+-- to look first.
 use Rattle.std.specs.Prelude.{◌≡◌, ◌≢◌, ℕ, ◌/◌, ◌%◌, ◌<◌, ◌≤◌, ◌==◌, nat_lt, length, map, if◌then◌else◌, Bool, true, false, List, Option, Some, None, slice_index_or}
 use Rattle.base_words.specs.Halves.{Half, is_of, clash}
 use Rattle.hw_tlb.specs.declared.room.Room.{Room}
 use Rattle.hw_tlb.specs.Tlb.{half_at, AreSided, ArePaired}
 use Rattle.hw_tlb.specs.Filling.{has_such}
+use Rattle.hw_tlb.specs.Counts.{AreCounts, is_numbered, is_spaced, is_shared}
 
 -- a room's key is the virtual page's number times 256 and the ASID; one past all keys marks a room without a half
 abbrev pub half_of : Room → Half
@@ -51,10 +53,20 @@ pub record AreInOrder (places : List (Option Half)) : Type 0 where
   pub sided : AreSided places
   pub paired : ArePaired places
 
--- what the fields have in common: a hint may lead anywhere among the places
-pub record Sound (rooms : List Room) (next : ℕ) (index : List ℕ) : Type 0 where
-  pub order : AreInOrder (places_of rooms)
+-- what the fields that keep the halves have in common: the counts are exact
+pub record AreCounted (rooms : List Room) (numbered spaced shared : List ℕ) : Type 0 where
   pub long : length rooms ≡ 96
+  pub by_number : AreCounts is_numbered numbered (places_of rooms)
+  pub by_key : AreCounts is_spaced spaced (places_of rooms)
+  pub globals : AreCounts is_shared shared (places_of rooms)
+
+-- a hint may lead anywhere among the places
+pub record AreHints (hints : List ℕ) : Type 0 where
+  pub wide : length hints ≡ 256
+  pub within : (bucket : ℕ) → bucket < 256 → slice_index_or hints bucket 0 < 96
+
+-- what the places and the turn have in common
+pub record Sound (places : List (Option Half)) (next : ℕ) : Type 0 where
+  pub order : AreInOrder places
+  pub long : length places ≡ 96
   pub turn : next < 48
-  pub wide : length index ≡ 256
-  pub within : (k : ℕ) → k < 256 → slice_index_or index k 0 < 96

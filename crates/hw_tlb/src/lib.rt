@@ -3,9 +3,13 @@
 #![tactic(auto)]
 
 mod answer;
+mod buckets;
 mod entries;
+mod hints;
+mod others;
 mod room;
 mod rooms;
+mod scans;
 mod tlb;
 
 pub use answer::HwAnswer;

@@ -1,19 +1,20 @@
 //! The room for one half.
-ghost use Rattle.std.specs.Prelude.{◌≡◌, not, ◌+◌, ◌*◌, ◌/◌, ◌%◌, ◌^◌, ◌<◌, ◌==◌, if◌then◌else◌, Some, None};
+ghost use Rattle.std.specs.Prelude.{◌≡◌, ◌+◌, ◌*◌, ◌/◌, ◌%◌, ◌^◌, ◌<◌, ◌==◌, nat_lt, if◌then◌else◌, Some, None};
 ghost use Rattle.base_words.specs.Halves.{clash};
 ghost use Rattle.hw_tlb.specs.Tlb.{side as side_of, are_beside};
 ghost use Rattle.hw_tlb.specs.Lookup.{through};
-ghost use Rattle.hw_tlb.specs.Dropping.{emptied};
 ghost use Rattle.hw_tlb.specs.Filling.{has_such};
+ghost use Rattle.hw_tlb.specs.Counts.{other_number, is_numbered, is_spaced, is_shared};
 ghost use Rattle.hw_tlb.specs.Rooms.{half_of, half_in, is_keyed, is_naming};
 
 use crate::answer::HwAnswer;
+use crate::buckets::{key_bucket, number_bucket};
 use base_words::{FrameNo, Ppn};
 
 /// The bytes of a page.
 pub const PAGE: u32 = 1 << 12;
 /// How many address spaces there are.
-const SPACES: u32 = 1 << 8;
+pub const SPACES: u32 = 1 << 8;
 /// The key of a room without a half, past all keys of 20 and 8 bits.
 const NO_KEY: u32 = 1 << 28;
 
@@ -67,6 +68,61 @@ impl Room {
         ensures { result ≡ (half_of self.now).number / 2 }
     {
         self.key / SPACES / 2
+    }
+
+    /// The number of the virtual page that the half is of.
+    pub fn number(&self) -> u32
+        ensures number { result ≡ (half_of self.now).number }
+        ensures small { result < 2 ^ 24 }
+    {
+        self.key / SPACES
+    }
+
+    /// The key of the pair's other virtual page, in the same address space.
+    pub fn other_key(&self) -> u32
+        ensures number { result / 256 ≡ other_number (half_of self.now) }
+        ensures asid { result % 256 ≡ (half_of self.now).asid }
+    {
+        if self.side() == 0 {
+            self.key + SPACES
+        } else {
+            self.key - SPACES
+        }
+    }
+
+    /// Whether there is a half.
+    pub fn has_half(&self) -> bool
+        ensures { result ≡ nat_lt self.now.key 268435456 }
+    {
+        self.key < NO_KEY
+    }
+
+    /// Whether there is a half whose number is of this bucket.
+    pub fn is_numbered(&self, bucket: usize) -> bool
+        ensures { result ≡ has_such (is_numbered bucket) (half_in self.now) }
+    {
+        self.has_half() && number_bucket(self.number()) == bucket
+    }
+
+    /// Whether there is a half of one address space whose key is of this bucket.
+    pub fn is_spaced(&self, bucket: usize) -> bool
+        ensures { result ≡ has_such (is_spaced bucket) (half_in self.now) }
+    {
+        self.has_half() && !self.global && key_bucket(self.key) == bucket
+    }
+
+    /// Whether there is a half of all address spaces whose number is of this bucket.
+    pub fn is_shared(&self, bucket: usize) -> bool
+        ensures { result ≡ has_such (is_shared bucket) (half_in self.now) }
+    {
+        self.has_half() && self.global && number_bucket(self.number()) == bucket
+    }
+
+    /// Whether the half is of the virtual page of this number.
+    pub fn is_of_number(&self, number: u32) -> bool
+        ensures { result ≡ ((half_of self.now).number == number) }
+    {
+        self.number() == number
     }
 
     /// Whether the half is of this pair of virtual pages.
@@ -127,15 +183,5 @@ impl Room {
         self.is_of_pair(new.pair())
             && self.key % SPACES == new.key % SPACES
             && self.global == new.global
-    }
-
-    /// Drops the half unless it may share an entry with the new one.
-    pub fn keep_beside(&mut self, new: &Room)
-        requires { new.now.key < 2 ^ 28 }
-        ensures { half_in self.new ≡ emptied (λ h. not (are_beside (half_of new.now) h)) (half_in self.old) }
-    {
-        if !self.is_beside(new) {
-            *self = Room::empty();
-        }
     }
 }

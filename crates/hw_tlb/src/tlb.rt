@@ -8,24 +8,26 @@ ghost use Rattle.hw_tlb.specs.Lookup.{looked_up};
 ghost use Rattle.hw_tlb.specs.Filling.{half_for, filled};
 
 use crate::answer::HwAnswer;
+use crate::buckets::{key_bucket, number_bucket};
 use crate::entries::{entry_for, put};
-use crate::room::{PAGE, Room, key_of};
-use crate::rooms::{PLACES, drop_named, drop_paired, far_place, place_of_frame};
+use crate::hints::Hints;
+use crate::room::{Room, key_of};
+use crate::rooms::Rooms;
+use crate::scans::{PLACES, drop_named, drop_paired, far_place, place_of_frame};
 use base_words::{FrameNo, Ppn};
 use std::marker::Model;
 
-/// The numbers by which the index is read.
-const BUCKETS: u32 = 1 << 8;
-
-/// The processor's TLB. Entry e has the rooms 2e and 2e + 1.
+/// The processor's TLB. Entry e has the places 2e and 2e + 1.
 #[derive(Debug, Drop)]
 pub struct HwTlb {
-    rooms: [Room; 96],
+    rooms: Rooms,
     /// The entry whose turn it is.
     next: u8,
-    /// Where the half stands that was filled last for an address of this number. A half that stands elsewhere is found all the
-    /// same, so nothing is lost where a hint is out of date.
-    index: [u8; 256],
+    /// Where the half stands that was filled last for a key of this bucket. A half that stands elsewhere is found all the same, so
+    /// nothing is lost where a hint is out of date.
+    hints: Hints,
+    /// Where the half stands that was filled last for a number of this bucket, in any address space.
+    last: Hints,
 }
 
 impl Model for HwTlb {
@@ -33,20 +35,11 @@ impl Model for HwTlb {
 
     ghost Value = { Tlb };
 
-    ghost use Rattle.hw_tlb.specs.Rooms.{places_of, Sound};
+    ghost use Rattle.hw_tlb.specs.Rooms.{Sound};
 
-    ghost view = { λ t. record { places = places_of t.rooms; next = t.next } };
+    ghost view = { λ t. record { places = t.rooms; next = t.next } };
 
-    ghost invariant = { λ t. Sound t.rooms t.next t.index };
-}
-
-/// The number by which the index is read for an address.
-#[inline]
-fn bucket(address: u32) -> usize
-    ensures { result < 256 }
-{
-    let number = address / PAGE;
-    ((number + number / BUCKETS) % BUCKETS) as usize
+    ghost invariant = { λ t. Sound t.rooms t.next };
 }
 
 impl HwTlb {
@@ -56,9 +49,10 @@ impl HwTlb {
         ensures consistent { IsConsistent result }
     {
         HwTlb {
-            rooms: [Room::empty(); 96],
+            rooms: Rooms::new(),
             next: 0,
-            index: [0; 256],
+            hints: Hints::new(),
+            last: Hints::new(),
         }
     }
 
@@ -69,13 +63,13 @@ impl HwTlb {
         ensures consistent { IsConsistent self.now }
     {
         let key = key_of(address, asid);
-        let near = &self.rooms[self.index[bucket(address)] as usize];
+        let near = self.rooms.at(self.hints.at(key_bucket(key)));
         if near.matches(key) {
             return near.answer(store);
         }
-        let place = far_place(&self.rooms, key);
+        let place = far_place(&self.rooms, &self.hints, &self.last, key);
         if place < PLACES {
-            self.rooms[place as usize].answer(store)
+            self.rooms.at(place).answer(store)
         } else {
             HwAnswer::Miss
         }
@@ -89,7 +83,7 @@ impl HwTlb {
     {
         let place = place_of_frame(&self.rooms, frame);
         if place < PLACES {
-            Some(self.rooms[place as usize].page)
+            Some(self.rooms.at(place).page)
         } else {
             None
         }
@@ -117,9 +111,10 @@ impl HwTlb {
             frame,
             writable,
         };
-        let entry = entry_for(&self.rooms, &new, &mut self.next);
+        let entry = entry_for(&self.rooms, &self.hints, &self.last, &new, &mut self.next);
         let place = put(&mut self.rooms, entry, &new);
-        self.index[bucket(address)] = place;
+        self.hints.set(key_bucket(new.key), place);
+        self.last.set(number_bucket(new.number()), place);
     }
 
     /// Drops the halves that name a page.
@@ -137,7 +132,7 @@ impl HwTlb {
         ensures halves { halves self.new ≡ without_pair vpn2 (halves self.old) }
         ensures consistent { IsConsistent self.new }
     {
-        drop_paired(&mut self.rooms, vpn2);
+        drop_paired(&mut self.rooms, &self.last, vpn2);
     }
 
     /// Drops all halves. The turn stays.
@@ -146,6 +141,6 @@ impl HwTlb {
         ensures halves { halves self.new ≡ [] }
         ensures consistent { IsConsistent self.new }
     {
-        self.rooms = [Room::empty(); 96];
+        self.rooms = Rooms::new();
     }
 }

@@ -1,5 +1,6 @@
 -- How the deques end, one after the other.
 use Rattle.std.proofs.Common.{◌≡◌, ◌≢◌, ℕ, zero, suc, ◌+◌, ◌<◌, ◌≤◌, List, [], ◌∷◌, ◌++◌, length, map, take, drop, sum_by, Some, slice_get, refl, sym, ap, ◌∙◌, subst, arith, ⊎_elim}
+use Rattle.std.specs.List.{All}
 use Rattle.std.proofs.lemmas.Option.{slice_get_within}
 use Rattle.std.proofs.lemmas.List.{length-map}
 use Rattle.std.proofs.lemmas.List.Sums.{sum_by-cons}
@@ -8,7 +9,7 @@ use Rattle.crossbeam_deque.specs.Handles.{worker_deque}
 use Rattle.run_balance.specs.Logs.{Took}
 use Rattle.run_balance.specs.Shares.{flat, whose_at, share_at}
 use Rattle.run_balance.specs.Sides.{Deque, side_at, side_log, IsSide, one_below}
-use Rattle.run_balance.specs.Owners.{number_of, reached_of, taken_by, taken_from, log_of, AreDealt}
+use Rattle.run_balance.specs.Owners.{number_of, reached_of, taken_by, taken_from, log_of, times, AreDealt}
 use Rattle.run_balance.specs.Deques.{deque_of}
 use Rattle.run_balance.specs.Gathering.{weight_there, IsPassOrNone, AreSameElse, HasDeque, IsSettled, AreAllOf, AreThrough}
 use Rattle.run_balance.specs.declared.deals.Gate.{Gate}
@@ -20,7 +21,8 @@ use Rattle.run_balance.proofs.Numbers.{some_there, one_there, below_next}
 use Rattle.run_balance.proofs.Steps.{own_side, own_there}
 use Rattle.run_balance.proofs.Each.{each_once}
 use Rattle.run_balance.proofs.Closing.{part_in_turn}
-use Rattle.run_balance.proofs.InOrder.{own_in_order}
+use Rattle.run_balance.proofs.InOrder.{whole_in_order}
+use Rattle.run_balance.proofs.Totals.{all_once}
 
 -- what is left of an owner as it was, before a deque and those behind it are settled
 pub record Remains (place : ℕ) (old new : Owner) : Type 0 where
@@ -176,14 +178,19 @@ are_dealt gates shares all owners place every through c past =
     let deques = map deque_of gates in
     let line = flat shares in
     let many = every.many in
-    let gates_all = length-map gates deque_of in record {
-      each = λ d item less.
-          let some = some_there gates d (let e : d < length gates = omega arith in e) in
-          let owner = owner_there deques shares all d (deque_of some.0) every (get_map gates d some.0 some.1) in
-          each_once deques shares all d item every through less (subst (λ (p : ℕ). IsSettled d p all) owner.0 (c.settled d some.0 (let e = slice_get_within gates d some.0 some.1 in omega arith) some.1));
+    let gates_all = length-map gates deque_of in
+    let once : (d item : ℕ) → d < length line → sum_by (λ (o : Owner). times item (taken_from d o)) all ≡ times item (share_at line d) =
+    λ d item less.
+    let some = some_there gates d (let e : d < length gates = omega arith in e) in
+    let owner = owner_there deques shares all d (deque_of some.0) every (get_map gates d some.0 some.1) in
+    each_once deques shares all d item every through less (subst (λ (p : ℕ). IsSettled d p all) owner.0 (c.settled d some.0 (let e = slice_get_within gates d some.0 some.1 in omega arith) some.1)) in
+    record {
+      sum = λ item. all_once line item all (λ i o at. (every.each i o at).0.both)
+          (λ i o at. subst (λ (n : ℕ). All (λ (d : ℕ). d < n) o.from.items) (sym (every.each i o at).0.many) (every.each i o at).0.froms) (λ d less. once d item less);
+      each = once;
       in_turn = λ d i o at less. let is = (every.each i o at).0 in
           part_in_turn (share_at line d) (one_below d (reached_of o (whose_at line d))) (taken_from d o) (log_of o d) (is.parts d (let m = is.many in omega arith));
-      own = λ i o at. own_in_order deques shares o (every.each i o at).0;
+      whole = λ p i o at few. whole_in_order deques shares p o (every.each i o at).0 few;
     }
 
 lists_same : (all owners : List Owner) → length owners ≡ length all → ((i : ℕ) (o p : Owner) → slice_get all i ≡ Some o → slice_get owners i ≡ Some p → taken_by p ≡ taken_by o) → map taken_by owners ≡ map taken_by all

@@ -5,7 +5,7 @@ use Rattle.std.proofs.lemmas.Option.{slice_get_within}
 use Rattle.std.proofs.lemmas.List.Elements.{All-head, All-tail, All-weaker}
 use Rattle.run_balance.specs.Shares.{Share, flat, whose_at, share_at, first_of, deque_no, stretches_of, joined}
 use Rattle.run_balance.specs.Sides.{Deque, items_from, one_below}
-use Rattle.run_balance.specs.Owners.{number_of, reached_of, log_of, taken_from, own_taken, items_of_own, AreInLine, IsOf, IsPartOf, AreRisingPlaces}
+use Rattle.run_balance.specs.Owners.{number_of, reached_of, log_of, taken_from, taken_of, items_of_processor, AreInLine, IsOf, IsPartOf, AreRisingPlaces}
 use Rattle.run_balance.specs.declared.owner.Owner.{Owner}
 use Rattle.run_balance.proofs.Numbers.{past_or, below_is, below_not}
 use Rattle.run_balance.proofs.Lines.{stands_there, stands_within, first_below}
@@ -63,7 +63,7 @@ abbrev own_from : List Share → ℕ → ℕ → List ℕ → List ℕ → List 
 own_from line p low (d ∷ froms) (item ∷ items) = if whose_at line d == p then put_if (one_below d low) item (own_from line p low froms items) else own_from line p low froms items
 own_from line p low froms items = []
 
-own_all : (line : List Share) (p low : ℕ) (froms items : List ℕ) → ((d : ℕ) → d < length line → whose_at line d ≡ p → low ≤ d) → All (λ (d : ℕ). d < length line) froms → items_of_own line p froms items ≡ own_from line p low froms items
+own_all : (line : List Share) (p low : ℕ) (froms items : List ℕ) → ((d : ℕ) → d < length line → whose_at line d ≡ p → low ≤ d) → All (λ (d : ℕ). d < length line) froms → items_of_processor line p froms items ≡ own_from line p low froms items
 own_all line p low [] items few all = refl
 own_all line p low (d ∷ froms) [] few all = refl
 own_all line p low (d ∷ froms) (item ∷ items) few all =
@@ -71,7 +71,7 @@ own_all line p low (d ∷ froms) (item ∷ items) few all =
     let rest = own_all line p low froms items few (All-tail P d froms all) in
     one (whose_at line d == p) refl rest
   where
-    one : (b : Bool) → (whose_at line d == p) ≡ b → items_of_own line p froms items ≡ own_from line p low froms items → (if b then item ∷ items_of_own line p froms items else items_of_own line p froms items) ≡ (if b then put_if (one_below d low) item (own_from line p low froms items) else own_from line p low froms items)
+    one : (b : Bool) → (whose_at line d == p) ≡ b → items_of_processor line p froms items ≡ own_from line p low froms items → (if b then item ∷ items_of_processor line p froms items else items_of_processor line p froms items) ≡ (if b then put_if (one_below d low) item (own_from line p low froms items) else own_from line p low froms items)
     one true is rest = ap (λ (l : List ℕ). item ∷ l) rest ∙ ap (λ (n : ℕ). put_if n item (own_from line p low froms items)) (sym (below_not d low (few d (All-head (λ (d : ℕ). d < length line) d froms all) (eqb-true (whose_at line d) p is))))
     one false is rest = rest
 
@@ -141,18 +141,17 @@ stack line p lo (x ∷ own) froms items in_line each all =
     (λ k less. subst (λ (n : ℕ). (whose_at line n ≡ p) × IsPartOf (slice_index_or own k []) (items_from n froms items)) (let e : lo + suc k ≡ suc lo + k = omega arith in e) (each (suc k) (omega arith)))
     (subst (λ (n : ℕ). All (λ (d : ℕ). whose_at line d ≡ p → d < n) froms) (let e : lo + length (x ∷ own) ≡ suc lo + length own = omega arith in e) all)))
 
-pub own_in_order : (deques : List Deque) (shares : List (List (List ℕ))) (o : Owner) → IsOf deques shares o → IsPartOf (joined (stretches_of shares (number_of o))) (own_taken shares o)
-own_in_order deques shares o is =
+pub whole_in_order : (deques : List Deque) (shares : List (List (List ℕ))) (p : ℕ) (o : Owner) → IsOf deques shares o → p < length shares → IsPartOf (joined (stretches_of shares p)) (taken_of shares p o)
+whole_in_order deques shares p o is few =
     let line = flat shares in
-    let p = number_of o in
     let own = stretches_of shares p in
     let froms : List ℕ = o.from.items in
     let many = is.many in
     let inside = subst (λ (n : ℕ). All (λ (d : ℕ). d < n) froms) (sym many) is.froms in
     subst (IsPartOf (joined own)) (sym (own_all line p (first_of shares p) froms o.taken.items
     (λ d less mine. let f = (first_below shares d less).1 in let e = ap (first_of shares) mine in let z : first_of shares p ≤ d = omega arith in z) inside))
-    (stack line p (first_of shares p) own froms o.taken.items is.in_line
-    (λ k less. let s = stands_there shares p k is.number less in let d = deque_no shares p k in
+    (stack line p (first_of shares p) own froms o.taken.items (is.in_line p)
+    (λ k less. let s = stands_there shares p k few less in let d = deque_no shares p k in
     let within = s.inside in (
       s.whose,
       subst (λ (share : List ℕ). IsPartOf share (taken_from d o)) s.items

@@ -16,3 +16,4 @@ pub mod Closes
 pub mod Lines
 pub mod NewDeques
 pub mod NewOwners
+pub mod Totals

@@ -222,8 +222,8 @@ is_fresh shares made most i row o p a is_row bare placed few enough =
           record { over = λ past. absurd (omega arith); ahead = λ _. (new d (let e : d < length made = omega arith in e)).dealt };
       both = ap length none_from ∙ sym (ap length none_taken);
       froms = subst (All (λ (d : ℕ). d < length deques)) (sym none_from) (All-nil (λ (d : ℕ). d < length deques));
-      in_line = subst (AreInLine line (number_of p) 0) (sym none_from) tt;
-      so_far = subst (All (λ (d : ℕ). whose_at line d ≡ number_of p → d ≤ stretch_of p)) (sym none_from) (All-nil (λ (d : ℕ). whose_at line d ≡ number_of p → d ≤ stretch_of p));
+      in_line = λ w. subst (AreInLine line w 0) (sym none_from) tt;
+      so_far = subst (All (λ (d : ℕ). d ≤ reached_of p (whose_at line d))) (sym none_from) (All-nil (λ (d : ℕ). d ≤ reached_of p (whose_at line d)));
       room = let e = bare.room in omega arith;
       room_from = let e = bare.room_from in omega arith;
     } in
@@ -236,9 +236,8 @@ is_fresh shares made most i row o p a is_row bare placed few enough =
       nothing_taken = none_taken;
     }
 
--- how many items there are, by stretches and by places
 -- a sum by numbers, from the first one on
-sum_to_first : (n : ℕ) (f : ℕ → ℕ) → sum_to (suc n) f ≡ f 0 + sum_to n (λ d. f (suc d))
+pub sum_to_first : (n : ℕ) (f : ℕ → ℕ) → sum_to (suc n) f ≡ f 0 + sum_to n (λ d. f (suc d))
 sum_to_first zero f = omega arith
 sum_to_first (suc n) f = let rest = sum_to_first n f in omega arith
 

@@ -34,7 +34,7 @@ room_left deques line owners o d item ends w is less part =
     let room = is.room in let room' = is.room_from in let both = is.both in
     ((let r : length o.taken.items < vec_capacity o.taken = omega arith in r), (let r : length o.from.items < vec_capacity o.from = omega arith in r))
 
--- ---- the line of its own deques
+-- ---- the line of one processor's deques
 
 low_after : (b : Bool) (e low r : ℕ) → (b ≡ true → e ≤ r) → low ≤ r → (if b then e else low) ≤ r
 low_after true e low r own less = own refl
@@ -64,8 +64,8 @@ pub record Moves (deques : List Deque) (line : List Share) (owners : ℕ) (old :
   pub items : (e : ℕ) → e ≢ d → items_from e from taken ≡ taken_from e old
   pub both : length from ≡ length taken
   pub froms : All (λ (e : ℕ). e < length deques) from
-  pub in_line : AreInLine line (number_of old) 0 from
-  pub so_far : All (λ (e : ℕ). whose_at line e ≡ number_of old → e ≤ slice_index_or reached (number_of old) 0) from
+  pub in_line : (p : ℕ) → AreInLine line p 0 from
+  pub so_far : All (λ (e : ℕ). e ≤ slice_index_or reached (whose_at line e) 0) from
 
 pub moved : (deques : List Deque) (line : List Share) (owners : ℕ) (old : Owner) (d : ℕ) (side : Side) (reached : Vec ℕ Global) (sides : Vec Side Global) (taken from : Vec ℕ Global)
     → IsOwner deques line owners old → Moves deques line owners old d side reached.items taken.items from.items → sides.items ≡ set old.sides.items d side
@@ -115,13 +115,13 @@ item_room deques line owners o d side later item is less at takes =
 -- an item was taken
 pub item_taken : (deques : List Deque) (line : List Share) (owners : ℕ) (o : Owner) (d : ℕ) (side later : Side) (sides : Vec Side Global) (taken from : Vec ℕ Global) (item : ℕ) → IsOwner deques line owners o → d < length deques
     → side_at o.sides.items d ≡ side → Takes (side_log side) (Item item) (side_log later) → ((q : Deque) → slice_get deques d ≡ Some q → IsSide q (share_at line d) owners (number_of o) later) → side_dealt later ≡ side_dealt side
-    → (whose_at line d ≡ number_of o → stretch_of o ≡ d) → sides.items ≡ set o.sides.items d later
+    → reached_of o (whose_at line d) ≡ d → sides.items ≡ set o.sides.items d later
     → taken.items ≡ o.taken.items ++ item ∷ [] → from.items ≡ o.from.items ++ d ∷ [] → vec_capacity taken ≡ vec_capacity o.taken → vec_capacity from ≡ vec_capacity o.from
     → IsOwner deques line owners (record o { sides = sides; taken = taken; from = from })
-item_taken deques line owners o d side later sides taken from item is less at takes is_side dealt own s t f capacity capacity_from =
+item_taken deques line owners o d side later sides taken from item is less at takes is_side dealt first s t f capacity capacity_from =
     let ends = one_below d (reached_of o (whose_at line d)) in
     let P = λ (e : ℕ). e < length deques in
-    let Q = λ (e : ℕ). whose_at line e ≡ number_of o → e ≤ stretch_of o in
+    let Q = λ (e : ℕ). e ≤ reached_of o (whose_at line e) in
     moved deques line owners o d later o.reached sides taken from is (record {
       inside = less;
       is_side = is_side;
@@ -134,8 +134,10 @@ item_taken deques line owners o d side later sides taken from item is less at ta
       items = λ e apart. (λ i. items_from e (f i) (t i)) ∙ from_else e o.from.items o.taken.items d item apart is.both;
       both = let a = ap length t in let b = ap length f in let x = length_push o.taken.items item in let y = length_push o.from.items d in let z = is.both in omega arith;
       froms = subst (All P) (sym f) (All-push P o.from.items d is.froms less);
-      in_line = subst (AreInLine line (number_of o) 0) (sym f) (in_line_more line (number_of o) 0 o.from.items d (stretch_of o) is.in_line is.so_far (omega arith) (λ (mine : whose_at line d ≡ number_of o). let e = own mine in let z : stretch_of o ≤ d = omega arith in z));
-      so_far = subst (All Q) (sym f) (All-push Q o.from.items d is.so_far (λ (mine : whose_at line d ≡ number_of o). let e = own mine in let z : d ≤ stretch_of o = omega arith in z));
+      in_line = λ p. subst (AreInLine line p 0) (sym f) (in_line_more line p 0 o.from.items d (reached_of o p) (is.in_line p)
+          (All-weaker Q (λ (e : ℕ). whose_at line e ≡ p → e ≤ reached_of o p) (λ (e : ℕ) (b : Q e) (mine : whose_at line e ≡ p). subst (λ (w : ℕ). e ≤ reached_of o w) mine b) o.from.items is.so_far) (omega arith)
+          (λ (mine : whose_at line d ≡ p). let e = ap (reached_of o) mine in let z : reached_of o p ≤ d = omega (arith, e, first) in z));
+      so_far = subst (All Q) (sym f) (All-push Q o.from.items d is.so_far (let z : d ≤ reached_of o (whose_at line d) = omega (arith, first) in z));
     }) s capacity capacity_from
 
 -- a stretch turned out to be over
@@ -150,9 +152,10 @@ end_taken deques line owners o d p side later sides reached is less at takes is_
     let number = number_of o in
     let now : reached_of o (whose_at line d) ≡ d = ap (reached_of o) whose ∙ was in
     let later_now : slice_index_or reached.items (whose_at line d) 0 ≡ d + 1 = ap (λ (w : ℕ). slice_index_or reached.items w 0) whose ∙ here in
-    let Q = λ (n e : ℕ). whose_at line e ≡ number → e ≤ n in
-    let grows : stretch_of o ≤ slice_index_or reached.items number 0 = by_one (λ w. reached_of o w ≤ slice_index_or reached.items w 0) p (let z : reached_of o p ≤ slice_index_or reached.items p 0 = omega arith in z)
-    (λ w apart. let e = else_ w apart in let z : reached_of o w ≤ slice_index_or reached.items w 0 = omega arith in z) number in
+    let Q = λ (e : ℕ). e ≤ reached_of o (whose_at line e) in
+    let R = λ (e : ℕ). e ≤ slice_index_or reached.items (whose_at line e) 0 in
+    let grows = λ (v : ℕ). by_one (λ w. reached_of o w ≤ slice_index_or reached.items w 0) p (let z : reached_of o p ≤ slice_index_or reached.items p 0 = omega arith in z)
+    (λ w apart. let e = else_ w apart in let z : reached_of o w ≤ slice_index_or reached.items w 0 = omega arith in z) v in
     moved deques line owners o d later reached sides o.taken o.from is (record {
       inside = less;
       is_side = is_side;
@@ -176,7 +179,7 @@ end_taken deques line owners o d p side later sides reached is less at takes is_
       both = is.both;
       froms = is.froms;
       in_line = is.in_line;
-      so_far = All-weaker (Q (stretch_of o)) (Q (slice_index_or reached.items number 0)) (λ (e : ℕ) (b : Q (stretch_of o) e) (mine : whose_at line e ≡ number). let a = b mine in let z : e ≤ slice_index_or reached.items number 0 = omega arith in z) o.from.items is.so_far;
+      so_far = All-weaker Q R (λ (e : ℕ) (b : Q e). let a = grows (whose_at line e) in let z : e ≤ slice_index_or reached.items (whose_at line e) 0 = omega (arith, a, b) in z) o.from.items is.so_far;
     }) s refl refl
 
 -- its side of a deque is another, which knows as much of what was taken

@@ -100,15 +100,15 @@ sum_to_less (suc n) f g k all less one =
     (λ (e : k < n). let last = all n (omega arith) in let rest = sum_to_less n f g k (λ d less. all d (omega arith)) e one in let r : sum_to n f + f n < sum_to n g + g n = omega arith in r)
     (last_or k n less)
 
-sum_to_more : (n : ℕ) (f g : ℕ → ℕ) → sum_to n (λ d. f d + g d) ≡ sum_to n f + sum_to n g
+pub sum_to_more : (n : ℕ) (f g : ℕ → ℕ) → sum_to n (λ d. f d + g d) ≡ sum_to n f + sum_to n g
 sum_to_more zero f g = refl
 sum_to_more (suc n) f g = let rest = sum_to_more n f g in omega arith
 
-sum_to_same : (n : ℕ) (f g : ℕ → ℕ) → ((d : ℕ) → f d ≡ g d) → sum_to n f ≡ sum_to n g
+pub sum_to_same : (n : ℕ) (f g : ℕ → ℕ) → ((d : ℕ) → f d ≡ g d) → sum_to n f ≡ sum_to n g
 sum_to_same zero f g all = refl
 sum_to_same (suc n) f g all = let last = all n in let rest = sum_to_same n f g all in omega arith
 
-sum_to_none : (n : ℕ) → sum_to n (λ _. 0) ≡ 0
+pub sum_to_none : (n : ℕ) → sum_to n (λ _. 0) ≡ 0
 sum_to_none zero = refl
 sum_to_none (suc n) = let rest = sum_to_none n in omega arith
 

@@ -82,7 +82,7 @@ next_item deques line owners o d s later sides taken from item is less at now ke
     let own = own_side deques line owners o d s is less at in
     item_taken deques line owners o d (Own s) (Own later) sides taken from item is less at takes
     (λ q there. own_later q (share_at line d) owners (number_of o) s later (subst (IsSide q (share_at line d) owners (number_of o)) at (is.sides d q there)) deque (keeps (share_at line d) owners own.1))
-    dealt (λ _. sym now) set_is t f capacity capacity_from
+    dealt (ap (reached_of o) own.0 ∙ sym now) set_is t f capacity capacity_from
 
 pub next_end : (deques : List Deque) (line : List Share) (owners : ℕ) (o : Owner) (d : ℕ) (s later : Stretch) (sides : Vec Side Global) (reached : Vec ℕ Global) → IsOwner deques line owners o → d < length deques
     → side_at o.sides.items d ≡ Own s → d ≡ stretch_of o → ((share : List ℕ) (owners : ℕ) → IsStretch share owners s → IsStretch share owners later) → later.dealt ≡ s.dealt → worker_deque later.dealer ≡ worker_deque s.dealer
@@ -231,13 +231,13 @@ found_past deques shares o new d side is less at other now set_is number reached
 -- ---- another's
 
 pub seat_item : (deques : List Deque) (line : List Share) (owners : ℕ) (o : Owner) (d : ℕ) (seat later : Seat) (sides : Vec Side Global) (taken from : Vec ℕ Global) (item : ℕ) → IsOwner deques line owners o → d < length deques
-    → side_at o.sides.items d ≡ Other seat → SamePass seat later → Takes (view seat) (Item item) (view later) → sides.items ≡ set o.sides.items d (Other later) → whose_at line d ≢ number_of o
+    → side_at o.sides.items d ≡ Other seat → SamePass seat later → Takes (view seat) (Item item) (view later) → sides.items ≡ set o.sides.items d (Other later) → reached_of o (whose_at line d) ≡ d
     → taken.items ≡ o.taken.items ++ item ∷ [] → from.items ≡ o.from.items ++ d ∷ [] → vec_capacity taken ≡ vec_capacity o.taken → vec_capacity from ≡ vec_capacity o.from
     → IsOwner deques line owners (record o { sides = sides; taken = taken; from = from })
-seat_item deques line owners o d seat later sides taken from item is less at same takes set_is apart t f capacity capacity_from =
+seat_item deques line owners o d seat later sides taken from item is less at same takes set_is first t f capacity capacity_from =
     item_taken deques line owners o d (Other seat) (Other later) sides taken from item is less at takes
     (λ q there. let side = subst (IsSide q (share_at line d) owners (number_of o)) at (is.sides d q there) in seat_later q (share_at line d) owners (number_of o) seat later side (same_pass q.id seat later same side.1) (ap (λ (v : Logged). v.deals) takes.is))
-    refl (λ mine. absurd (apart mine)) set_is t f capacity capacity_from
+    refl first set_is t f capacity capacity_from
 
 pub seat_end : (deques : List Deque) (line : List Share) (owners : ℕ) (o : Owner) (d p : ℕ) (seat later : Seat) (sides : Vec Side Global) (reached : Vec ℕ Global) → IsOwner deques line owners o → d < length deques
     → side_at o.sides.items d ≡ Other seat → SamePass seat later → Takes (view seat) End (view later) → sides.items ≡ set o.sides.items d (Other later) → whose_at line d ≡ p → p < owners → p ≢ number_of o → reached_of o p ≡ d

@@ -52,7 +52,7 @@ pub record IsInTurn (share : List ℕ) (d reached dealt : ℕ) : Type 0 where
   pub over : d < reached → dealt ≡ length share
   pub ahead : reached < d → dealt ≡ 0
 
--- the own ones among the deques from which it got something, in order: no later one stands before an earlier one
+-- one processor's among the deques from which an owner got something, in order: no later one stands before an earlier one
 abbrev pub AreInLine : List Share → ℕ → ℕ → List ℕ → Type 0
 AreInLine line number low [] = Unit {0}
 AreInLine line number low (d ∷ froms) = (whose_at line d ≡ number → low ≤ d) × AreInLine line number (if whose_at line d == number then d else low) froms
@@ -69,8 +69,8 @@ pub record IsOwner (deques : List Deque) (line : List Share) (owners : ℕ) (o :
   pub in_turn : (d : ℕ) → d < length deques → whose_at line d ≡ number_of o → IsInTurn (share_at line d) d (stretch_of o) (side_dealt (side_at o.sides.items d))
   pub both : length (from_of o) ≡ length (taken_by o)
   pub froms : All (λ (d : ℕ). d < length deques) (from_of o)
-  pub in_line : AreInLine line (number_of o) 0 (from_of o)
-  pub so_far : All (λ (d : ℕ). whose_at line d ≡ number_of o → d ≤ stretch_of o) (from_of o)
+  pub in_line : (p : ℕ) → AreInLine line p 0 (from_of o)
+  pub so_far : All (λ (d : ℕ). d ≤ reached_of o (whose_at line d)) (from_of o)
   pub room : total_of line ≤ vec_capacity o.taken
   pub room_from : total_of line ≤ vec_capacity o.from
 
@@ -158,17 +158,18 @@ pub record IsPartOf (share items : List ℕ) : Type 0 where
   pub are : map (λ (p : ℕ). slice_get share p) places ≡ map Some items
 
 -- what came from deques of one processor
-abbrev pub items_of_own : List Share → ℕ → List ℕ → List ℕ → List ℕ
-items_of_own line number (d ∷ froms) (item ∷ items) = if whose_at line d == number then item ∷ items_of_own line number froms items else items_of_own line number froms items
-items_of_own line number froms items = []
+abbrev pub items_of_processor : List Share → ℕ → List ℕ → List ℕ → List ℕ
+items_of_processor line number (d ∷ froms) (item ∷ items) = if whose_at line d == number then item ∷ items_of_processor line number froms items else items_of_processor line number froms items
+items_of_processor line number froms items = []
 
--- what an owner took of its own stretches
-abbrev pub own_taken : List (List (List ℕ)) → Owner → List ℕ
-own_taken shares o = items_of_own (flat shares) (number_of o) (from_of o) (taken_by o)
+-- what an owner took of a processor's stretches
+abbrev pub taken_of : List (List (List ℕ)) → ℕ → Owner → List ℕ
+taken_of shares p o = items_of_processor (flat shares) p (from_of o) (taken_by o)
 
--- Each item that was dealt through a deque stands in exactly one owner's list, as often as in the stretch; what an owner got of a deque stands
--- in that stretch's order; and what it got of its own stretches in the order of its whole share.
+-- Each item that was dealt stands in exactly one owner's list, as often as in all stretches, and so does each that was dealt through one deque, as
+-- often as in that stretch; what an owner got of a deque stands in that stretch's order; and what it got of all a processor's stretches, of its own and of another's, in the order of that processor's whole share.
 pub record AreDealt (shares : List (List (List ℕ))) (owners : List Owner) : Type 0 where
+  pub sum : (item : ℕ) → sum_by (λ (o : Owner). times item (taken_by o)) owners ≡ sum_by (λ (s : Share). times item s.items) (flat shares)
   pub each : (d item : ℕ) → d < length (flat shares) → sum_by (λ (o : Owner). times item (taken_from d o)) owners ≡ times item (share_at (flat shares) d)
   pub in_turn : (d : ℕ) (i : ℕ) (o : Owner) → slice_get owners i ≡ Some o → d < length (flat shares) → IsPartOf (share_at (flat shares) d) (taken_from d o)
-  pub own : (i : ℕ) (o : Owner) → slice_get owners i ≡ Some o → IsPartOf (joined (stretches_of shares (number_of o))) (own_taken shares o)
+  pub whole : (p i : ℕ) (o : Owner) → slice_get owners i ≡ Some o → p < length shares → IsPartOf (joined (stretches_of shares p)) (taken_of shares p o)

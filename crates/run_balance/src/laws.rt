@@ -3,7 +3,7 @@ ghost use Rattle.std.specs.Prelude.{◌≡◌, ◌<◌, ℕ, List, length, sum_b
 ghost use Rattle.run_balance.specs.Gathering.{AreAllOf, AreThrough, IsSettled};
 ghost use Rattle.run_balance.specs.Shares.{flat, share_at, whose_at, stretches_of, deque_no, joined, StandsThere};
 ghost use Rattle.run_balance.specs.Sides.{Deque};
-ghost use Rattle.run_balance.specs.Owners.{taken_from, own_taken, number_of, times, IsOf, IsPartOf};
+ghost use Rattle.run_balance.specs.Owners.{taken_from, taken_of, times, IsOf, IsPartOf};
 ghost use Rattle.run_balance.specs.declared.owner.Owner.{Owner};
 
 /// What an owner took of a deque stands in that deque's stretch, in its order.
@@ -11,9 +11,9 @@ pub fn what_is_taken_stands_in_order()
     ensures { (deques : List Deque) (shares : List (List (List ℕ))) (owner : Owner) (d : ℕ) → IsOf deques shares owner → d < length (flat shares) → IsPartOf (share_at (flat shares) d) (taken_from d owner) }
 {}
 
-/// What an owner took of its own stretches stands in its whole share, in that order.
-pub fn own_items_stand_in_order()
-    ensures { (deques : List Deque) (shares : List (List (List ℕ))) (owner : Owner) → IsOf deques shares owner → IsPartOf (joined (stretches_of shares (number_of owner))) (own_taken shares owner) }
+/// What an owner took of a processor's stretches, of its own or another's, stands in that processor's whole share, in its order.
+pub fn whole_shares_stand_in_order()
+    ensures { (deques : List Deque) (shares : List (List (List ℕ))) (p : ℕ) (owner : Owner) → IsOf deques shares owner → p < length shares → IsPartOf (joined (stretches_of shares p)) (taken_of shares p owner) }
 {}
 
 /// Once a deque is settled and its owner has gone through all its stretches, each item of it stands in exactly one owner's list, as often as in

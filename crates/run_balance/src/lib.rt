@@ -14,7 +14,7 @@ mod task;
 
 pub use deals::{Deals, OwnerList, ShareList, Taken, close};
 pub use laws::{
-    each_item_is_taken_once, own_items_stand_in_order, stretches_stand_in_line,
-    what_is_taken_stands_in_order,
+    each_item_is_taken_once, stretches_stand_in_line, what_is_taken_stands_in_order,
+    whole_shares_stand_in_order,
 };
 pub use owner::Owner;

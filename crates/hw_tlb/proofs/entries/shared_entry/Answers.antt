@@ -1,17 +1,13 @@
-use Rattle.std.proofs.Common.{◌∙◌, sym, arith}
-use Rattle.hw_tlb.specs.Tlb.{are_beside}
+use Rattle.std.proofs.Common.{◌-◌, arith}
+use Rattle.hw_tlb.specs.Tlb.{side, are_beside}
 use Rattle.hw_tlb.specs.Rooms.{half_of}
-use Rattle.hw_tlb.proofs.RoomLemmas.{found_here, found_none, none_more}
+use Rattle.hw_tlb.proofs.ScanLemmas.{found_only, found_nowhere}
 use Rattle.hw_tlb.proofs.entries.shared_entry.Goals as goal
 
-pub loop-entry-preserved : goal.loop-entry-preserved
-loop-entry-preserved c =
-    none_more (are_beside (half_of c.args.new.now)) _ c.args.rooms.now _ _ (omega arith) c.loop-entry.invariant (sym c.is_beside.ensures ∙ c.if-is_beside.false)
+pub returns-then-not-may_share-clause-first : goal.returns-then-not-may_share-clause-first
+returns-then-not-may_share-clause-first c =
+    found_nowhere (are_beside (half_of c.args.new.now)) (1 - side (half_of c.args.new.now)) c.args.rooms.now (c.may_share.ensures (grind arith))
 
-pub returns-then-is_beside-clause-first : goal.returns-then-is_beside-clause-first
-returns-then-is_beside-clause-first c =
-    found_here (are_beside (half_of c.args.new.now)) _ _ c.args.rooms.now _ _ (rw c.side-side.ensures.side) (omega arith) c.loop-entry-test.true c.loop-entry.invariant (sym c.is_beside.ensures ∙ c.if-is_beside.true)
-
-pub returns-clause-first : goal.returns-clause-first
-returns-clause-first c =
-    found_none (are_beside (half_of c.args.new.now)) _ _ c.args.rooms.now _ (rw c.side-side.ensures.side) c.loop-entry-test.false c.loop-entry.invariant
+pub returns-then-place-lt-PLACES-clause-first : goal.returns-then-place-lt-PLACES-clause-first
+returns-then-place-lt-PLACES-clause-first c =
+    found_only (are_beside (half_of c.args.new.now)) (1 - side (half_of c.args.new.now)) c.args.rooms.now c.near_shared-place.result (omega arith) c.if-place-lt-PLACES.true (c.near_shared-place.ensures c.if-place-lt-PLACES.true)

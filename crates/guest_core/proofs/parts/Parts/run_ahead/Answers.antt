@@ -1,5 +1,5 @@
 -- Steps that the processor made by itself are their rows, one after the other, and the guest is kept.
-use Rattle.std.proofs.Common.{◌≡◌, ℕ, zero, suc, ◌+◌, ◌-◌, ◌^◌, ◌<◌, ◌≤◌, ◌++◌, min, List, length, map, replicate, refl, sym, ap, ◌∙◌, subst, arith, length-append}
+use Rattle.std.proofs.Common.{◌≡◌, ℕ, zero, suc, ◌+◌, ◌-◌, ◌^◌, ◌<◌, ◌≤◌, ◌++◌, min, Option, Some, None, IfSome, List, length, map, replicate, refl, sym, ap, ◌∙◌, subst, arith, length-append}
 use Rattle.std.proofs.lemmas.List.{length-replicate}
 use Rattle.base_words.specs.declared.events.Event.{Event}
 use Rattle.base_words.specs.declared.events.Event.TheVariants.{Direct}
@@ -8,8 +8,14 @@ use Rattle.shootdown.specs.declared.notes.Note.TheVariants.{Made}
 use Rattle.shootdown.specs.declared.view.SidedNote.{SidedNote}
 use Rattle.shootdown.specs.Notes.{Seat, Token, sided}
 use Rattle.guest_course.specs.CourseView.{state_of}
-use Rattle.guest_course.specs.StepCalls.{StepsMany}
-use Rattle.guest_core.specs.GuestCalls.{processor_of}
+use Rattle.isolation_law.specs.GuestState.{GuestState}
+use Rattle.base_words.specs.declared.ids.VcpuId.{VcpuId}
+use Rattle.base_words.specs.declared.trap.HwStep.{HwStep}
+use Rattle.base_words.specs.declared.trap.HwStep.TheVariants as steps
+use Rattle.base_words.specs.declared.trap.TrapCause.{TrapCause}
+use Rattle.guest_course.specs.StepCalls.{MayStep, StepsMany, StepsTo, StopsAt, TrapsFor}
+use Rattle.guest_core.specs.GuestView.{Monitored, guest_of}
+use Rattle.guest_core.specs.GuestCalls.{TrapsNext, processor_of, trap_in}
 use Rattle.guest_core.specs.Wiring.{Posted}
 use Rattle.guest_core.proofs.AheadProofs.{around-many, due-many, frames-many, kept-many, many-of, map-replicate, quiet-many, run-many, uses-many}
 use Rattle.guest_core.proofs.EnterProofs.{handed-same, of-these}
@@ -110,3 +116,34 @@ returns-clause-ahead c =
       same = record { number = refl; start = refl; disk = refl; board = ap (λ (x : Seat). x.board) c.note_many.ensures.seat; table = refl; wires = refl; own = refl };
       handed = handed-same old.course c.steps-made.new.self c.steps-made.ensures.packets.hand;
     }
+
+-- a step that trapped came before there were enough
+few-before : (most few n : ℕ) (t : GuestState) (p : ℕ) (last : HwStep) → few ≤ most → StopsAt few n t p last → IfSome (trap_in last) (λ cause. n < most)
+few-before most few n t p (steps.Direct access) le stops = tt
+few-before most few n t p (steps.Trap cause) le stops = omega (arith, le, stops)
+
+-- and may be made
+next-of : (n : ℕ) (s : GuestState) (p v : ℕ) (t : GuestState) (last : HwStep) → StepsTo n s p v t last → IfSome (trap_in last) (λ cause. TrapsFor t p v cause × MayStep t p v)
+next-of n s p v t (steps.Direct access) came = tt
+next-of n s p v t (steps.Trap cause) came = (came.traps, came.may)
+
+traps-next : (g : Monitored) (token : Token) (v : VcpuId) (p : ℕ) (o : Option TrapCause) → token.number ≡ p → IfSome o (λ cause. TrapsFor g.state p v.0 cause × MayStep g.state p v.0) → IfSome o (TrapsNext g token v)
+traps-next g token v p None is next = tt
+traps-next g token v p (Some cause) is next = record {
+  traps = subst (λ (n : ℕ). TrapsFor g.state n v.0 cause) (sym is) next.0;
+  may = subst (λ (n : ℕ). MayStep g.state n v.0) (sym is) next.1;
+}
+
+pub returns-clause-fewer : goal.returns-clause-fewer
+returns-clause-fewer c =
+    let least = c.min-few.ensures in
+    subst (λ (o : Option TrapCause). IfSome o (λ cause. c.steps-made.result.made < c.args.most)) (sym c.trap_of.ensures)
+    (few-before c.args.most c.min-few.result c.steps-made.result.made (state_of c.steps-made.new.self) c.number-processor.result.0 c.steps-made.result.last (omega (arith, least)) c.steps-made.ensures.stops)
+
+pub returns-clause-traps : goal.returns-clause-traps
+returns-clause-traps c =
+    let old = c.args.self.now in
+    let new : Monitored = guest_of (record old { course = c.steps-made.new.self; journal = c.push_directs.new.self; seat = c.note_many.new.seat }) in
+    traps-next new c.note_many.new.token c.args.vcpu c.number-processor.result.0 c.trap_of.result (ap (λ (t : Token). t.number) c.note_many.ensures.token ∙ sym c.number-processor.ensures)
+    (subst (λ (o : Option TrapCause). IfSome o (λ cause. TrapsFor (state_of c.steps-made.new.self) c.number-processor.result.0 c.args.vcpu.0 cause × MayStep (state_of c.steps-made.new.self) c.number-processor.result.0 c.args.vcpu.0)) (sym c.trap_of.ensures)
+    (next-of c.steps-made.result.made (state_of old.course) c.number-processor.result.0 c.args.vcpu.0 (state_of c.steps-made.new.self) c.steps-made.result.last c.steps-made.ensures.came))

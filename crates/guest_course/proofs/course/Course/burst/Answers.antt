@@ -18,7 +18,7 @@ use Rattle.guest_course.specs.Failures.{lost_in}
 use Rattle.guest_course.specs.declared.window.Window.{Window}
 use Rattle.guest_course.specs.Windows.{IsWindow, IsWindowOn}
 use Rattle.guest_course.specs.Packets.{SamePackets}
-use Rattle.guest_course.specs.StepCalls.{StepsMany, StepsTo, TrapsFor, TrapsUnchanged}
+use Rattle.guest_course.specs.StepCalls.{MayStep, StepsMany, StepsTo, TrapsFor, TrapsUnchanged}
 use Rattle.guest_course.proofs.PlaceLemmas.{loaded-below}
 use Rattle.guest_course.proofs.ReadyLemmas.{due-at, not-some}
 use Rattle.guest_course.proofs.course.Course.burst.Goals as goal
@@ -207,7 +207,7 @@ returns-in_default-clause-came c =
     let many = steps-then start (state_of c.loop-made.self) mid p v c.loop-made.made c.run_ahead-ahead.result c.loop-made.invariant.steps c.run_ahead-ahead.ensures.steps in
     let trapped : TrapsUnchanged mid p v new c.in_default.field-0 = c.in_default.ensures.executes in
     subst (StepsTo made start p v new) (sym c.in_default.is)
-    (record { steps = subst (StepsMany made start p v) (sym trapped.same) many; traps = subst (λ (t : GuestState). TrapsFor t p v c.in_default.field-0) (sym trapped.same) trapped.why })
+    (record { steps = subst (StepsMany made start p v) (sym trapped.same) many; traps = subst (λ (t : GuestState). TrapsFor t p v c.in_default.field-0) (sym trapped.same) trapped.why; may = subst (λ (t : GuestState). MayStep t p v) (sym trapped.same) c.run_ahead-ahead.ensures.may })
 
 pub returns-then-made-limit-clause-came : goal.returns-then-made-limit-clause-came
 returns-then-made-limit-clause-came c =

@@ -1,6 +1,5 @@
 use Rattle.std.proofs.Common.{◌==◌}
 use Rattle.base_words.specs.Halves.{Half}
-use Rattle.hw_tlb.specs.Rooms.{places_of}
 use Rattle.hw_tlb.proofs.PlaceLemmas.{standing-emptied}
 use Rattle.hw_tlb.proofs.SoundLemmas.{sound-swept, consistent}
 use Rattle.hw_tlb.proofs.tlb.HwTlb.drop_page.Goals as goal
@@ -9,7 +8,7 @@ pub invariant_of-self : goal.invariant_of-self
 invariant_of-self c = sound-swept (λ (h : Half). h.page == c.args.page.0) c.self.invariant _ c.drop_named.ensures
 
 pub returns-clause-halves : goal.returns-clause-halves
-returns-clause-halves c = rw (c.drop_named.ensures, ← c.self.view_is) (standing-emptied (λ (h : Half). h.page == c.args.page.0) (places_of c.self.inside.rooms))
+returns-clause-halves c = rw (c.drop_named.ensures, ← c.self.view_is) (standing-emptied (λ (h : Half). h.page == c.args.page.0) c.self.inside.rooms)
 
 pub returns-clause-consistent : goal.returns-clause-consistent
 returns-clause-consistent c = consistent (sound-swept (λ (h : Half). h.page == c.args.page.0) c.self.invariant _ c.drop_named.ensures)

@@ -4,7 +4,7 @@ use Rattle.hw_tlb.proofs.tlb.HwTlb.fill.Goals as goal
 
 pub invariant_of-self : goal.invariant_of-self
 invariant_of-self c =
-    sound-placed _ c.self.invariant c.put-place.new.rooms _ c.entry_for-entry.ensures.small c.put-place.ensures.placed _ _ _ c.put-place.ensures.small c.entry_for-entry.ensures.small_turn c.bucket.ensures
+    sound-placed _ c.self.invariant c.put-place.new.rooms _ c.entry_for-entry.ensures.small c.put-place.ensures.placed _ c.entry_for-entry.ensures.small_turn
 
 pub returns-clause-filled : goal.returns-clause-filled
 returns-clause-filled c =
@@ -20,4 +20,4 @@ returns-clause-fills c =
 
 pub returns-clause-consistent : goal.returns-clause-consistent
 returns-clause-consistent c =
-    consistent (sound-placed _ c.self.invariant c.put-place.new.rooms _ c.entry_for-entry.ensures.small c.put-place.ensures.placed _ _ _ c.put-place.ensures.small c.entry_for-entry.ensures.small_turn c.bucket.ensures)
+    consistent (sound-placed _ c.self.invariant c.put-place.new.rooms _ c.entry_for-entry.ensures.small c.put-place.ensures.placed _ c.entry_for-entry.ensures.small_turn)

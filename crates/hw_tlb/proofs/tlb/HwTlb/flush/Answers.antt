@@ -1,8 +1,8 @@
-use Rattle.hw_tlb.proofs.SoundLemmas.{sound-flushed, consistent}
+use Rattle.hw_tlb.proofs.SoundLemmas.{sound-empty, consistent}
 use Rattle.hw_tlb.proofs.tlb.HwTlb.flush.Goals as goal
 
 pub invariant_of-self : goal.invariant_of-self
-invariant_of-self c = sound-flushed _ c.empty-self-inside.ensures c.self.invariant
+invariant_of-self c = rw c.new-self-inside.ensures (sound-empty _ c.self.invariant.turn)
 
 pub returns-clause-consistent : goal.returns-clause-consistent
-returns-clause-consistent c = consistent (sound-flushed _ c.empty-self-inside.ensures c.self.invariant)
+returns-clause-consistent c = rw c.new-self-inside.ensures (consistent (sound-empty _ c.self.invariant.turn))

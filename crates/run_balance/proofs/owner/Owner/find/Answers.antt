@@ -44,7 +44,7 @@ returns-in-Some-Item-clause-kept c deques line owners q is there from_is =
     let takes : Takes (view c.in-Other.seat) (Item c.in-Some-Item.item) (view c.steal_task.new.seat) = subst (λ (t : Task). Takes (view c.in-Other.seat) t (view c.steal_task.new.seat)) c.in-Some-Item.field-0-is c.in-Some-Item.ensures.some in
     let whose : whose_at line d ≡ c.args.from.0 = sym (is.whose d q there).0 ∙ from_is in
     seat_item deques line owners o d c.in-Other.seat c.steal_task.new.seat (Rattle.std.specs.Vec.with_item o.sides d (Other c.steal_task.new.seat)) c.note.new.taken c.note.new.froms c.in-Some-Item.item is less at c.steal_task.ensures.same takes refl
-    (λ e. c.requires.other (sym whose ∙ e)) c.note.ensures.taken c.note.ensures.from c.note.ensures.capacity.0 c.note.ensures.capacity.1
+    (ap (reached_of o) whose ∙ c.requires.first) c.note.ensures.taken c.note.ensures.from c.note.ensures.capacity.0 c.note.ensures.capacity.1
 
 pub returns-in-Some-End-clause-kept : goal.returns-in-Some-End-clause-kept
 returns-in-Some-End-clause-kept c deques line owners q is there from_is =

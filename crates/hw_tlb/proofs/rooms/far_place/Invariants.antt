@@ -1,8 +1,0 @@
-use Rattle.std.proofs.Common.{◌≡◌, ℕ, ◌<◌, false}
-use Rattle.hw_tlb.specs.Tlb.{half_at}
-use Rattle.hw_tlb.specs.Filling.{has_such}
-use Rattle.hw_tlb.specs.Rooms.{is_keyed, places_of}
-use Rattle.hw_tlb.proofs.rooms.far_place.Given as goal
-
-abbrev pub invariant-loop-place : goal.invariant-loop-place
-invariant-loop-place l = (k : ℕ) → k < l.place → has_such (is_keyed l.key) (half_at (places_of l.rooms) k) ≡ false
